@@ -1,0 +1,4 @@
+pub mod Found
+pub mod Frames
+pub mod Order
+pub mod Vetted

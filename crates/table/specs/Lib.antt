@@ -1,0 +1,5 @@
+pub mod Force
+pub mod Places
+pub mod Frame
+pub mod Vetting
+pub mod Tables
