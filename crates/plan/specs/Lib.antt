@@ -1,0 +1,3 @@
+pub mod Journal
+pub mod Follows
+pub mod Plans
