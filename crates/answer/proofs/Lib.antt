@@ -1,4 +1,3 @@
 pub mod Digits
-pub mod Examples
 pub mod Put
 pub mod Rest
