@@ -1,4 +1,6 @@
 // The answers of a console, written as bytes into memory that the caller lends.
+#![tactic(auto)]
+
 mod kinds;
 mod line;
 mod number;

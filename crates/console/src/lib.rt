@@ -1,4 +1,6 @@
 // The console: bytes in, answers out.
+#![tactic(auto)]
+
 mod fault;
 mod obey;
 mod receive;

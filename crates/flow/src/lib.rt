@@ -1,4 +1,6 @@
 // Routes and flows: types that hold only what the rules allow, and the reading of routes from bytes.
+#![tactic(auto)]
+
 mod fault;
 mod gather;
 mod hops;

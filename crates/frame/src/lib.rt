@@ -1,4 +1,6 @@
 // One frame: its legs, states of filling it, and grids.
+#![tactic(auto)]
+
 mod frame;
 mod hop;
 mod leg;

@@ -1,4 +1,6 @@
 // The legs of the flows in force, and their frame.
+#![tactic(auto)]
+
 mod expansion;
 mod framing;
 mod hops;

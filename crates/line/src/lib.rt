@@ -1,4 +1,6 @@
 // One line of the console: the bytes that were received, and the call that they spell.
+#![tactic(auto)]
+
 mod call;
 mod line_buffer;
 mod number;

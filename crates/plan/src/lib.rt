@@ -1,4 +1,6 @@
 // The plan: flows in force, channel map and change list, edited while it is open.
+#![tactic(auto)]
+
 mod changes;
 mod channels;
 mod edit;

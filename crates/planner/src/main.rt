@@ -1,4 +1,6 @@
 // The planner: reads lines from standard input and answers each at once on standard output.
+#![tactic(auto)]
+
 use serve::serve;
 use std::io;
 

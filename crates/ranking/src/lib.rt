@@ -1,4 +1,6 @@
 // Rankings of released hops.
+#![tactic(auto)]
+
 mod conflict;
 mod hops;
 mod plain;

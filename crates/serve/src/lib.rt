@@ -1,5 +1,7 @@
 // One session: bytes in from a reader, answers out to a writer. What is read and written no contract can say; the work
 // is the console's, which is proved.
+#![tactic(auto)]
+
 use console::{Console, ConsoleFault, Granted, write_reply};
 use std::alloc::Global;
 use std::io;

@@ -1,4 +1,6 @@
 // Runs the sessions that its arguments name, each on a new plan, and prints what the planner answers.
+#![tactic(auto)]
+
 use serve::serve;
 use std::io::Cursor;
 use std::{env, fs, io};

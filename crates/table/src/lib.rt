@@ -1,4 +1,6 @@
 // The table of the flows in force, and what keeps a flow out of it.
+#![tactic(auto)]
+
 mod edits;
 mod fault;
 mod frame;

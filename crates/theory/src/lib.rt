@@ -1,1 +1,2 @@
 // Theorems on frames: see proofs/.
+#![tactic(auto)]

@@ -1,4 +1,6 @@
 // Walks that fill a frame.
+#![tactic(auto)]
+
 mod answer;
 mod cell;
 mod enter;

@@ -1,3 +1,5 @@
+#![tactic(auto)]
+
 ghost use Rattle.worked.specs.Worked.{Worked};
 
 // Says that the definitions give the numbers of a frame worked by hand: see specs/Worked.antt.
