@@ -18,7 +18,7 @@ hops-more rs i r h is =
 
 pub loop-route-preserved : goal.loop-route-preserved
 loop-route-preserved c =
-    let rs = c.as-slice-route-items.result.now in
+    let rs = c.as_slice-route-items.result.now in
     let r = c.route-item.result in (
       ap (λ n. n + (r.count - 1)) c.loop-route.invariant.0
           ∙ hops-more rs c.loop-route.route-index r c.loop-route-test.true c.route-item.is,
@@ -27,10 +27,10 @@ loop-route-preserved c =
 
 pub returns : goal.returns
 returns c =
-    let all = take_all c.loop-route.route-index c.as-slice-route-items.result.now c.loop-route-test.false in
+    let all = take_all c.loop-route.route-index c.as_slice-route-items.result.now c.loop-route-test.false in
     record {
       value =
           c.loop-route.invariant.0
-          ∙ ap (λ rs. hops_of (map devices_in rs)) all ∙ ap hops_of c.as-slice-route-items.ensures.value;
+          ∙ ap (λ rs. hops_of (map devices_in rs)) all ∙ ap hops_of c.as_slice-route-items.ensures.value;
       bound = omega (arith, c.args.self.now.few);
     }

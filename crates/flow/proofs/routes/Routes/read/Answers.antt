@@ -4,4 +4,4 @@ use Rattle.flow.proofs.routes.Routes.read.Goals as goal
 
 pub returns : goal.returns
 returns c =
-    record { value = c.read-all.ensures; meant = read_meant c.args.bytes.now _ (sym c.read-all.ensures) }
+    record { value = c.read_all.ensures; meant = read_meant c.args.bytes.now _ (sym c.read_all.ensures) }
