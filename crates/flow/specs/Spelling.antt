@@ -1,6 +1,6 @@
 -- What the bytes of routes mean, without a word on how they are read.
 use Rattle.std.specs.Prelude.{◌≡◌, ℕ, ◌≤◌, true, List, [], ◌∷◌, ◌++◌, length, Ok, Err, Result, ◌≢◌}
-use Rattle.std.specs.List.{AllByRecursion as All}
+use Rattle.std.specs.List.{AllByRecursion}
 use Rattle.flow.specs.declared.fault.RouteFault.{RouteFault}
 use Rattle.flow.specs.Rules.{lawful, all_agree}
 
@@ -19,7 +19,7 @@ pub record IsRoute (ds : List ℕ) : Type 0 where
 pub record AreRoutes (routes : List (List ℕ)) : Type 0 where
   pub some : 1 ≤ length routes
   pub few : length routes ≤ 3
-  pub each : All IsRoute routes
+  pub each : AllByRecursion IsRoute routes
   pub ends : all_agree routes ≡ true
 
 -- bytes are read as the routes that they spell, and refused only where they spell none

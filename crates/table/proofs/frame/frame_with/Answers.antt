@@ -9,5 +9,5 @@ returns c =
     let fs = map flow_spec c.args.flows.now in
     let f = flow_spec c.args.flow.now in
     sym (frame_is c.lcm.result (enter f fs)
-    (least_more fs (enter f fs) f.period c.frame-of.result c.lcm.result (λ n. common-enter n f fs)
-    c.frame-of.ensures.least c.lcm.ensures))
+    (least_more fs (enter f fs) f.period c.frame_of.result c.lcm.result (λ n. common-enter n f fs)
+    c.frame_of.ensures.least c.lcm.ensures))

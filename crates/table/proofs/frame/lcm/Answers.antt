@@ -27,8 +27,8 @@ loop-m-init c =
     let a = c.args.a in
     (c.requires.some.0, mod_self a, λ k from of-a _. le_of_dvd from (dvd_of_mod-eq-zero a of-a))
 
-pub overflow-add-m : goal.overflow-add-m
-overflow-add-m c =
+pub overflow_add-m : goal.overflow_add-m
+overflow_add-m c =
     let most = mul-le-mul c.requires.few.0 c.requires.few.1 in omega (arith, within c)
 
 pub loop-m-smaller : goal.loop-m-smaller

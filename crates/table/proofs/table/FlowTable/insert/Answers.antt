@@ -12,7 +12,7 @@ use Rattle.table.proofs.table.FlowTable.insert.Goals as goal
 use Rattle.table.proofs.table.FlowTable.insert.Goals.{After-insert}
 
 pub insert-requires : goal.insert-requires
-insert-requires c = omega (arith, c.place-i.ensures.bound, c.as-slice.ensures.len, flows-length c.args.self.now)
+insert-requires c = omega (arith, c.place-i.ensures.bound, c.as_slice.ensures.len, flows-length c.args.self.now)
 
 module _ (c : After-insert) where
   -- there is memory for one more
@@ -26,7 +26,7 @@ module _ (c : After-insert) where
       let f = flow_spec c.args.flow in
       ap (map flow_spec) (c.insert.ensures.items ∙ cond-true (is_ok c.insert.result) _ _ (c.insert.ensures.succeeds room))
       ∙ map_inserted (vec_items c.args.self.now.flows) c.place-i.result c.args.flow
-      ∙ ap (λ i. insert fs i f) (c.place-i.ensures.value ∙ ap (place_of f.number) c.as-slice.ensures.value)
+      ∙ ap (λ i. insert fs i f) (c.place-i.ensures.value ∙ ap (place_of f.number) c.as_slice.ensures.value)
       ∙ sym (enter-place f fs)
 
   -- they are not too many
@@ -35,21 +35,19 @@ module _ (c : After-insert) where
       let one = c.insert.ensures.len ∙ cond-true (is_ok c.insert.result) _ _ (c.insert.ensures.succeeds room) in
       omega (arith, one, c.requires.room, flows-length c.args.self.now)
 
-pub invariant-of-self : goal.invariant-of-self
-invariant-of-self c =
+pub invariant_of-self : goal.invariant_of-self
+invariant_of-self c =
     let f = flow_spec c.args.flow in
     let fs = flows_in c.args.self.now in
     let short = subst (λ l. frame l ≤ 1024) (sym (after c)) c.requires.short in
-    let light = subst (λ l. transmissions l ≤ 2048) (sym (after c)) c.requires.light in (
-      omega (arith, c.args.self.now.room, c.insert.ensures.capacity),
-      (
-        long c,
-        (
-          ap rising (after c) ∙ rising-enter f fs c.requires.new c.args.self.now.rises,
-          (short, (light, tt)),
-        ),
-      ),
-    )
+    let light = subst (λ l. transmissions l ≤ 2048) (sym (after c)) c.requires.light in
+    record {
+      room = omega (arith, c.args.self.now.room, c.insert.ensures.capacity);
+      few = long c;
+      rises = ap rising (after c) ∙ rising-enter f fs c.requires.new c.args.self.now.rises;
+      short = short;
+      light = light;
+    }
 
 pub returns : goal.returns
 returns c = after (goal.at.returns c).After-insert

@@ -13,15 +13,15 @@ use Rattle.table.proofs.table.FlowTable.remove.Goals.{After-remove}
 
 -- the index that was found
 index : (c : After-remove) → index_of c.args.number (flows_in c.args.self.now) ≡ Some c.in-Some.i
-index c = ap (index_of c.args.number) (sym c.as-slice.ensures.value) ∙ sym c.in-Some.ensures.value
+index c = ap (index_of c.args.number) (sym c.as_slice.ensures.value) ∙ sym c.in-Some.ensures.value
 
 pub remove-requires : goal.remove-requires
-remove-requires c = omega (arith, c.in-Some.ensures.below, c.as-slice.ensures.len, flows-length c.args.self.now)
+remove-requires c = omega (arith, c.in-Some.ensures.below, c.as_slice.ensures.len, flows-length c.args.self.now)
 
 pub unreachable-requires : goal.unreachable-requires
 unreachable-requires c =
     let fs = flows_in c.args.self.now in
-    let none = ap (index_of c.args.number) (sym c.as-slice.ensures.value) ∙ sym c.in-None.ensures.value in
+    let none = ap (index_of c.args.number) (sym c.as_slice.ensures.value) ∙ sym c.in-None.ensures.value in
     false≢true (sym (ap is_some none) ∙ in_force_index c.args.number fs ∙ c.requires)
 
 -- the flows that are left
@@ -30,20 +30,21 @@ after c =
     ap (map flow_spec) c.remove.ensures.items
     ∙ without-index c.args.number (vec_items c.args.self.now.flows) c.in-Some.i (index c)
 
-pub invariant-of-self : goal.invariant-of-self
-invariant-of-self c =
+pub invariant_of-self : goal.invariant_of-self
+invariant_of-self c =
     let fs = flows_in c.args.self.now in
     let n = c.args.number in
     let old = c.args.self.now in
     let timed = flows_timed (vec_items old.flows) in
     let short = subst (λ l. frame l ≤ 1024) (sym (after c)) (omega (arith, frame-leave n fs timed, old.short)) in
-    let light = subst (λ l. transmissions l ≤ 2048) (sym (after c)) (omega (arith, transmissions-leave n fs timed, old.light)) in (
-      omega (arith, c.remove.ensures.capacity, old.room),
-      (
-        omega (arith, c.remove.ensures.len, old.few),
-        (ap rising (after c) ∙ rising-leave n fs old.rises, (short, (light, tt))),
-      ),
-    )
+    let light = subst (λ l. transmissions l ≤ 2048) (sym (after c)) (omega (arith, transmissions-leave n fs timed, old.light)) in
+    record {
+      room = omega (arith, c.remove.ensures.capacity, old.room);
+      few = omega (arith, c.remove.ensures.len, old.few);
+      rises = ap rising (after c) ∙ rising-leave n fs old.rises;
+      short = short;
+      light = light;
+    }
 
 pub returns : goal.returns
 returns c =

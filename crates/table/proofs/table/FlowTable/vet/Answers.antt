@@ -6,21 +6,21 @@ use Rattle.table.specs.Tables.{flows_in}
 use Rattle.table.proofs.Vetted.{place_refused, read_is, then_refused}
 use Rattle.table.proofs.table.FlowTable.vet.Goals as goal
 
-pub returns-in-err-check-place : goal.returns-in-err-check-place
-returns-in-err-check-place c =
-    let p = err_from_is_err_and c.from-residual.result c.from-residual.ensures.1 in
+pub returns-in_err-check_place : goal.returns-in_err-check_place
+returns-in_err-check_place c =
+    let p = err_from_is_err_and c.from_residual.result c.from_residual.ensures.1 in
     rw (p.1, p.2)
     (sym (place_refused c.args.number c.args.period c.args.deadline c.args.routes.now (flows_in c.args.self.now)
-    c.in-err-check-place.field-0.0 c.in-err-check-place.ensures))
+    c.in_err-check_place.field-0.0 c.in_err-check_place.ensures))
 
-pub returns-in-err-check-frame : goal.returns-in-err-check-frame
-returns-in-err-check-frame c =
-    let p = err_from_is_err_and c.from-residual-in-err-check-frame.result c.from-residual-in-err-check-frame.ensures.1 in
+pub returns-in_err-check_frame : goal.returns-in_err-check_frame
+returns-in_err-check_frame c =
+    let p = err_from_is_err_and c.from_residual-in_err-check_frame.result c.from_residual-in_err-check_frame.ensures.1 in
     let bytes = c.args.routes.now in
-    let x = c.in-ok-routes in
+    let x = c.in_ok-routes in
     let read = read_is c.args.number c.read.result x.routes (read_routes_of bytes) x.ensures c.read.ensures.value in
     rw (p.1, p.2)
     (sym (then_refused c.args.number c.args.period c.args.deadline bytes (flows_in c.args.self.now)
-    c.in-ok-check-place.field-0 c.in-ok-check-times.field-0 (routes_in x.routes)
-    c.in-err-check-frame.field-0.0 c.in-ok-check-place.ensures c.in-ok-check-times.ensures read
-    c.in-err-check-frame.ensures))
+    c.in_ok-check_place.field-0 c.in_ok-check_times.field-0 (routes_in x.routes)
+    c.in_err-check_frame.field-0.0 c.in_ok-check_place.ensures c.in_ok-check_times.ensures read
+    c.in_err-check_frame.ensures))
