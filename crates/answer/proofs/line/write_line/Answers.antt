@@ -21,12 +21,12 @@ returns-then-size-out c =
     let ns = c.args.numbers.now in
     let size = length-line c.args.line word ns in
     let fit = fits (line_bytes c.args.line word ns) room (omega arith) in
-    let wrote : c.write-text.new.out ≡ put room 0 (n ++ (word ++ (number_bytes ns ++ (10 ∷ [])))) =
-    c.write-text.ensures.wrote
-    ∙ put-put _ _ _ _ (number_bytes ns) _ c.write-numbers-end.ensures.wrote c.write-numbers-end.ensures.end (omega arith)
-    ∙ put-put _ _ _ _ word _ c.write-text-end.ensures.wrote c.write-text-end.ensures.end (omega arith)
-    ∙ put-put room _ 0 _ n _ c.write-number-end.ensures.wrote c.write-number-end.ensures.end (omega arith) in
-    let long : c.write-text.result ≡ length (line_bytes c.args.line word ns) = omega arith in
+    let wrote : c.write_text.new.out ≡ put room 0 (n ++ (word ++ (number_bytes ns ++ (10 ∷ [])))) =
+    c.write_text.ensures.wrote
+    ∙ put-put _ _ _ _ (number_bytes ns) _ c.write_numbers-end.ensures.wrote c.write_numbers-end.ensures.end (omega arith)
+    ∙ put-put _ _ _ _ word _ c.write_text-end.ensures.wrote c.write_text-end.ensures.end (omega arith)
+    ∙ put-put room _ 0 _ n _ c.write_number-end.ensures.wrote c.write_number-end.ensures.end (omega arith) in
+    let long : c.write_text.result ≡ length (line_bytes c.args.line word ns) = omega arith in
     record { gives = ap Some long ∙ sym fit.0; wrote = wrote ∙ sym fit.1 }
 
 pub returns-else-size-out : goal.returns-else-size-out

@@ -6,11 +6,11 @@ use Rattle.answer.proofs.Put.{put-none, put-put}
 use Rattle.answer.proofs.Rest.{numbers_more, length_more, length_none}
 use Rattle.answer.proofs.numbers.write_numbers.Goals as goal
 
-pub write-text-end-requires : goal.write-text-end-requires
-write-text-end-requires c = search (rules, length_more)
+pub write_text-end-requires : goal.write_text-end-requires
+write_text-end-requires c = search (rules, length_more)
 
-pub write-number-end-requires : goal.write-number-end-requires
-write-number-end-requires c = search (rules, length_more)
+pub write_number-end-requires : goal.write_number-end-requires
+write_number-end-requires c = search (rules, length_more)
 
 pub loop-n-preserved : goal.loop-n-preserved
 loop-n-preserved c =
@@ -21,9 +21,9 @@ loop-n-preserved c =
     let n = decimal (get_or ns i 0) in
     let rest = number_bytes (drop (i + 1) ns) in
     let more = length_more ns i c.loop-n-test.true in
-    let both : c.write-number-end.new.out ≡ put room at (32 ∷ n) =
-    c.write-number-end.ensures.wrote
-    ∙ put-put room _ at _ (32 ∷ []) n c.write-text-end.ensures.wrote c.write-text-end.ensures.end (omega arith) in (
+    let both : c.write_number-end.new.out ≡ put room at (32 ∷ n) =
+    c.write_number-end.ensures.wrote
+    ∙ put-put room _ at _ (32 ∷ []) n c.write_text-end.ensures.wrote c.write_text-end.ensures.end (omega arith) in (
       omega arith,
       put-put room _ at _ (32 ∷ n) rest both (omega arith) (omega arith)
           ∙ ap (put room at) (sym (numbers_more ns i c.loop-n-test.true)) ∙ c.loop-n.invariant.1,

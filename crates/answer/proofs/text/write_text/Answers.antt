@@ -4,4 +4,4 @@ use Rattle.answer.proofs.text.write_text.Goals as goal
 
 pub returns : goal.returns
 returns c =
-    record { end = refl; wrote = put_part _ _ _ _ _ c.copy-from-slice.ensures.after (omega arith) }
+    record { end = refl; wrote = put_part _ _ _ _ _ c.copy_from_slice.ensures.after (omega arith) }
