@@ -1,5 +1,5 @@
 -- States, and the lifetimes of undone hops. A state is a slot and, for each leg, the number of its hops that are done.
-use Rattle.std.specs.Prelude.{ℕ, ◌+◌, ◌-◌, max, Bool, true, false, ◌&&◌, leb, List, [], ◌∷◌, map, length, ℤ, pos, ◌-ℤ◌, int_lt, nat_le, nat_lt, slice_index}
+use Rattle.std.specs.Prelude.{ℕ, ◌+◌, ◌-◌, max, Bool, true, false, ◌&&◌, List, [], ◌∷◌, map, length, ℤ, pos, ◌-ℤ◌, int_lt, nat_le, nat_lt, slice_index}
 use Rattle.std.specs.List.{range_with_len, flat_map}
 use Rattle.frame.specs.Below.{all_below, some_below}
 use Rattle.frame.specs.Legs.{LegSpec}
@@ -50,7 +50,7 @@ overdue f s p = some_below (leg_count f) (λ i. some_below (size_of f i) (λ k. 
 
 -- all hops are done
 abbrev pub complete : FrameSpec → List ℕ → Bool
-complete f p = all_below (leg_count f) (λ i. leb (size_of f i) (done_of p i))
+complete f p = all_below (leg_count f) (λ i. nat_le (size_of f i) (done_of p i))
 
 -- the next hop of leg i is released: no undone hop stands before it, and the leg's release has come
 abbrev pub released : FrameSpec → ℕ → List ℕ → ℕ → Bool

@@ -19,7 +19,7 @@ pub returns : goal.returns
 returns c =
     let legs = c.legs-legs in
     let x = c.index-legs-leg in
-    c.is-released.ensures
+    c.is_released.ensures
     ∙ ap (leg_released (leg_spec x.result) c.args.slot) c.done.ensures
     ∙ ap (λ l. leg_released l c.args.slot (done_of c.args.progress.now c.args.leg))
     (sym (frame-leg (frame_spec c.args.self.now) legs.result.now legs.ensures.seen c.args.leg

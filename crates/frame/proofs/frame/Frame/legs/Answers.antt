@@ -7,8 +7,8 @@ pub returns : goal.returns
 returns c =
     let v = c.args.self.now.legs in
     record {
-      value = c.as-slice.ensures.value;
-      seen = ap (map leg_spec) c.as-slice.ensures.value;
-      len = c.as-slice.ensures.len ∙ v.ok.0 ∙ sym (length-map v.items leg_spec);
-      few = omega (arith, c.as-slice.ensures.len, c.args.self.now.few);
+      value = c.as_slice.ensures.value;
+      seen = ap (map leg_spec) c.as_slice.ensures.value;
+      len = c.as_slice.ensures.len ∙ v.ok.0 ∙ sym (length-map v.items leg_spec);
+      few = omega (arith, c.as_slice.ensures.len, c.args.self.now.few);
     }

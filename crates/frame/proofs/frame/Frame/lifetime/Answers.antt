@@ -15,15 +15,15 @@ size c =
     frame-size (frame_spec c.args.self.now) c.legs-legs.result.now c.legs-legs.ensures.seen c.args.leg
     c.index-legs-leg.result c.if-leg-legs.false c.index-legs-leg.is
 
-pub returns-then-not-is-state : goal.returns-then-not-is-state
-returns-then-not-is-state c =
+pub returns-then-not-is_state : goal.returns-then-not-is_state
+returns-then-not-is_state c =
     let f = frame_spec c.args.self.now in
     let s = c.args.slot in
     let p = c.args.progress.now in
     let i = c.args.leg in
     let legs = c.legs-legs in
-    elim c.then-not-is-state.either [
-      | inl out ↦ sym (none-outside f s p i c.args.hop (sym c.is-state.ensures ∙ out))
+    elim c.then-not-is_state.either [
+      | inl out ↦ sym (none-outside f s p i c.args.hop (sym c.is_state.ensures ∙ out))
       | inr past ↦ sym (none-past f s p i c.args.hop
           (omega (arith, ap (λ l. length l.hops) (frame_past f legs.result.now legs.ensures.seen i past.1))))
     ]
@@ -36,7 +36,7 @@ lifetime-requires c =
           omega (
             arith,
             state_slot (frame_spec f) c.args.slot c.args.progress.now c.args.leg c.args.hop
-                (sym c.is-state.ensures ∙ c.if-not-is-state.false),
+                (sym c.is_state.ensures ∙ c.if-not-is_state.false),
             f.short,
           );
       hop = (c.if-hop-done.false, c.if-hop-found.false);
@@ -69,5 +69,5 @@ returns c =
     ∙ ap (λ l. leg_lifetime l s (done_of p i) k)
     (sym (frame-leg f c.legs-legs.result.now c.legs-legs.ensures.seen i c.index-legs-leg.result
     c.if-leg-legs.false c.index-legs-leg.is)))
-    ∙ sym (some-undone f s p i k (sym c.is-state.ensures ∙ c.if-not-is-state.false)
+    ∙ sym (some-undone f s p i k (sym c.is_state.ensures ∙ c.if-not-is_state.false)
     (omega (arith, c.done-done.ensures, c.if-hop-done.false)) (omega (arith, count, c.if-hop-found.false)))

@@ -3,24 +3,24 @@ use Rattle.frame.specs.Frames.{frame_spec}
 use Rattle.frame.proofs.Shares.{table_front, table_part, below_rises, below_fits, visits-fit}
 use Rattle.frame.proofs.frame.Frame.visits.Goals as goal
 
-pub slice-bounds-result-count : goal.slice-bounds-result-count
-slice-bounds-result-count c =
+pub slice_bounds-result-count : goal.slice_bounds-result-count
+slice_bounds-result-count c =
     let legs = (frame_spec c.args.self.now).legs in
     omega (arith, c.start-first.ensures, c.start-end.ensures, below_rises legs c.args.device (c.args.device + 1) (omega arith))
 
-pub slice-bounds-result-start : goal.slice-bounds-result-start
-slice-bounds-result-start c =
+pub slice_bounds-result-start : goal.slice_bounds-result-start
+slice_bounds-result-start c =
     let legs = (frame_spec c.args.self.now).legs in
     omega (arith, c.start-first.ensures, c.start-end.ensures, below_rises legs c.args.device (c.args.device + 1) (omega arith))
 
-pub slice-bounds-result-end : goal.slice-bounds-result-end
-slice-bounds-result-end c =
+pub slice_bounds-result-end : goal.slice_bounds-result-end
+slice_bounds-result-end c =
     let f = c.args.self.now in
     omega (
       arith,
       c.start-end.ensures,
       table_front (frame_spec f).legs (c.args.device + 1) (omega (arith, c.ranges.device)),
-      ap length (c.as-slice.ensures.value ∙ f.filed),
+      ap length (c.as_slice.ensures.value ∙ f.filed),
     )
 
 pub returns : goal.returns
@@ -29,12 +29,12 @@ returns c =
     let legs = (frame_spec f).legs in
     let part =
     ap (λ l. take (c.start-end.result - c.start-first.result) (drop c.start-first.result l))
-    (c.as-slice.ensures.value ∙ f.filed)
+    (c.as_slice.ensures.value ∙ f.filed)
     ∙ table_part legs c.args.device c.start-first.result c.start-end.result (omega (arith, c.ranges.device))
     c.start-first.ensures c.start-end.ensures in
     record { value = part; few = omega (arith, ap length part, visits-fit legs c.args.device, f.light) }
 
-pub offset-bounds-as-slice-first : goal.offset-bounds-as-slice-first
-offset-bounds-as-slice-first c =
+pub offset_bounds-as_slice-first : goal.offset_bounds-as_slice-first
+offset_bounds-as_slice-first c =
     let f = c.args.self.now in
     omega (arith, c.start-first.ensures, below_fits (frame_spec f).legs c.args.device, f.light)
