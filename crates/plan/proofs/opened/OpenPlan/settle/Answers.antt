@@ -15,8 +15,8 @@ moved c j f =
     let p = c.args.self.now in
     subst (Follows (after settle j) (flows_in p.table) p.map) (sym c.clear.ensures) (follows_settle f)
 
-pub invariant-of-self : goal.invariant-of-self
-invariant-of-self c = (sounds c.args.self.now (after settle) (moved c), tt)
+pub invariant_of-self : goal.invariant_of-self
+invariant_of-self c = record { sound = sounds c.args.self.now (after settle) (moved c) }
 
 pub returns : goal.returns
 returns c = λ j f. (refl, moved (goal.at.returns c).After-clear j f)

@@ -18,10 +18,10 @@ use Rattle.plan.proofs.Reverting.{
 }
 use Rattle.plan.proofs.opened.OpenPlan.undo.Goals as goal
 
-pub returns-then-is-empty : goal.returns-then-is-empty
-returns-then-is-empty c = record {
+pub returns-then-is_empty : goal.returns-then-is_empty
+returns-then-is_empty c = record {
   kept = refl;
-  law = refused c.args.self.now undo _ _ c.at-flow.ensures (λ j f. undo_refused f c.if-is-empty.ensures);
+  law = refused c.args.self.now undo _ _ c.at_flow.ensures (λ j f. undo_refused f c.if-is_empty.ensures);
 }
 
 pub remove-requires : goal.remove-requires
@@ -40,27 +40,27 @@ insert-requires c =
       light = ∥∥₁_elim sound le_prop (λ x. (insert-fits x.1 _ r.flow r.ensures).light);
     }
 
-pub invariant-of-self : goal.invariant-of-self
-invariant-of-self c =
+pub invariant_of-self : goal.invariant_of-self
+invariant_of-self c =
     let r = c.in-Remove in
-    (sounds c.args.self.now fewer (λ j f. follows-remove f _ r.added r.ensures c.remove.ensures.after), tt)
+    record { sound = sounds c.args.self.now fewer (λ j f. follows-remove f _ r.added r.ensures c.remove.ensures.after) }
 
-pub invariant-of-self-in-Insert : goal.invariant-of-self-in-Insert
-invariant-of-self-in-Insert c =
+pub invariant_of-self-in-Insert : goal.invariant_of-self-in-Insert
+invariant_of-self-in-Insert c =
     let r = c.in-Insert in
-    (sounds c.args.self.now fewer (λ j f. follows-insert f _ r.flow r.ensures c.insert.ensures), tt)
+    record { sound = sounds c.args.self.now fewer (λ j f. follows-insert f _ r.flow r.ensures c.insert.ensures) }
 
-pub invariant-of-self-in-Restore : goal.invariant-of-self-in-Restore
-invariant-of-self-in-Restore c =
+pub invariant_of-self-in-Restore : goal.invariant_of-self-in-Restore
+invariant_of-self-in-Restore c =
     let r = c.in-Restore in
-    (sounds c.args.self.now fewer (λ j f. follows-restore f _ r.map r.ensures), tt)
+    record { sound = sounds c.args.self.now fewer (λ j f. follows-restore f _ r.map r.ensures) }
 
 pub returns-in-Remove : goal.returns-in-Remove
 returns-in-Remove c =
     let r = c.in-Remove in
     record {
       kept = tt;
-      law = undone c.args.self.now c.if-is-empty.ensures
+      law = undone c.args.self.now c.if-is_empty.ensures
           (λ j f. follows-remove f _ r.added r.ensures c.remove.ensures.after);
     }
 
@@ -69,7 +69,7 @@ returns-in-Insert c =
     let r = c.in-Insert in
     record {
       kept = tt;
-      law = undone c.args.self.now c.if-is-empty.ensures
+      law = undone c.args.self.now c.if-is_empty.ensures
           (λ j f. follows-insert f _ r.flow r.ensures c.insert.ensures);
     }
 
@@ -78,6 +78,6 @@ returns-in-Restore c =
     let r = c.in-Restore in
     record {
       kept = tt;
-      law = undone c.args.self.now c.if-is-empty.ensures
+      law = undone c.args.self.now c.if-is_empty.ensures
           (λ j f. follows-restore f _ r.map r.ensures);
     }
