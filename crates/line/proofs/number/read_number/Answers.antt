@@ -1,7 +1,7 @@
 use Rattle.std.proofs.Common.{◌≡◌, ◌<◌, ◌≤◌, min, true, length, get_or, Some, sym, ap, ◌∙◌, arith, rules}
 use Rattle.std.proofs.lemmas.List.{at_drop_all}
 use Rattle.line.specs.Grammar.{value_from, all_digits}
-use Rattle.line.proofs.Digits.{digits_more, digits_fail, value_more, below_more_digits, is_number_lem, no_digits}
+use Rattle.line.proofs.Digits.{digits_more, digits_fail, value_more, below_more_digits, number_of_digits, no_digits}
 use Rattle.line.proofs.number.read_number.Goals as goal
 use Rattle.line.proofs.number.read_number.Goals.{else-field-gt1-via-then-field-gt1+else-field-eq48, else-field-gt1-via-else-field-gt1}
 
@@ -40,6 +40,6 @@ returns c =
       | else-field-gt1-via-then-field-gt1+else-field-eq48 w ↦ w.if-field-eq48.false zero
       | else-field-gt1-via-else-field-gt1 w ↦ omega arith
     ] in
-    let read = is_number_lem largest field some c.if-field-gt-MOST_DIGITS.false first digits in
+    let read = number_of_digits largest field some c.if-field-gt-MOST_DIGITS.false first digits in
     let result : c.min.result ≡ min (value_from 0 field) largest = c.min.ensures ∙ rw (c.from-2.ensures, value) in
     record { value = ap Some result ∙ sym read; bounds = (omega arith, some) }
