@@ -27,9 +27,9 @@ pub below_more_digits : (v d i : ℕ) → v < 10 ^ i → d ≤ 9 → v * 10 + d 
 below_more_digits v d i h low = rw (add-one, pow-suc) (omega arith)
 
 -- a short field without a leading zero, whose bytes are digits, is a number
-pub is_number_lem : (largest : ℕ) (xs : List ℕ) → 0 < length xs → length xs ≤ 5 → (1 < length xs → get_or xs 0 0 ≡ 48 → ⊥) → all_digits xs ≡ true →
+pub number_of_digits : (largest : ℕ) (xs : List ℕ) → 0 < length xs → length xs ≤ 5 → (1 < length xs → get_or xs 0 0 ≡ 48 → ⊥) → all_digits xs ≡ true →
     number largest xs ≡ Some (min (value_from 0 xs) largest)
-is_number_lem largest xs some few first digits =
+number_of_digits largest xs some few first digits =
     let one = eqb (length xs) 1 in
     let zero' = eqb (get_or xs 0 0) 48 in
     let lead : (one || not zero') ≡ true =

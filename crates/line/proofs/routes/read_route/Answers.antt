@@ -10,9 +10,9 @@ loop-piece-preserved c =
     let before = routes_of c.loop-piece.routes in
     let piece = c.in-Some.piece.now in
     let after = left c.next.new.self in
-    let d = c.in-ok-device.device in
+    let d = c.in_ok-device.device in
     let cut = c.in-Some.ensures in
-    let read = c.in-ok-device.ensures in
+    let read = c.in_ok-device.ensures in
     let more = devices-more before piece after d read.value in (
       ap (λ bs. behind bs (devices after)) c.push-in-Some.ensures.bytes
           ∙ sym more
@@ -26,7 +26,7 @@ returns c =
     let field = c.args.field.now in
     let before = routes_of c.args.routes.now in
     record {
-      bytes = devices-end (routes_of c.loop-piece.routes) (left c.loop-piece.pieces) c.in-default.ensures
+      bytes = devices-end (routes_of c.loop-piece.routes) (left c.loop-piece.pieces) c.in_default.ensures
           ∙ c.loop-piece.invariant.0
           ∙ ap (λ bs. behind bs (devices (split_at 45 field))) c.push.ensures.bytes
           ∙ route-behind before field c.count.result c.count.ensures.pieces;

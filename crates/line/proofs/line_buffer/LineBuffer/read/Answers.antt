@@ -4,4 +4,4 @@ use Rattle.line.proofs.line_buffer.LineBuffer.read.Goals as goal
 
 pub returns : goal.returns
 returns c line h =
-    c.read-line.ensures ∙ read_front c.as-slice-held.result.now line (c.as-slice-held.ensures ∙ h)
+    c.read_line.ensures ∙ read_front c.as_slice-held.result.now line (c.as_slice-held.ensures ∙ h)
