@@ -1,6 +1,6 @@
 -- Lawful completions, lawful grids and their count.
 use Rattle.std.specs.Prelude.{◌≡◌, ℕ, zero, suc, ◌+◌, ◌<◌, ◌≤◌, Bool, true, false, not, ◌&&◌, ◌||◌, ◌≢◌, ◌⊎◌, List, [], ◌∷◌, map, length, filter, ◌==◌, nat_le, nat_lt, slice_index_or}
-use Rattle.std.specs.List.{range_with_len, ContainsAt as Has, flat_map, AllByRecursion as All}
+use Rattle.std.specs.List.{range_with_len, ContainsAt as Has, flat_map, AllByRecursion}
 use Rattle.frame.specs.declared.placement.Placement.{Placement}
 use Rattle.frame.specs.Below.{all_below}
 use Rattle.frame.specs.Legs.{LegSpec, hop_total}
@@ -26,7 +26,7 @@ pub record Completion (f : FrameSpec) (s : ℕ) (p : List ℕ) (at : ℕ → ℕ
   pub apart : (i k j l : ℕ) → undone f p i k ≡ true → undone f p j l ≡ true → i ≢ j → at i k ≡ at j l →
       clash (hop_at f i k) (hop_at f j l) ≡ false
   -- at most as many hops stand in one slot as there are channels
-  pub room : (t : ℕ) (is : List ℕ) → Distinct is → All (λ i. (k : ℕ) × (undone f p i k ≡ true) × (at i k ≡ t)) is →
+  pub room : (t : ℕ) (is : List ℕ) → Distinct is → AllByRecursion (λ i. (k : ℕ) × (undone f p i k ≡ true) × (at i k ≡ t)) is →
       length is ≤ f.channels
 
 -- where a hop is sent

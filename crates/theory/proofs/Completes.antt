@@ -1,6 +1,6 @@
 -- A run completes the state where it begins.
 use Rattle.std.proofs.Common.{◌≡◌, ℕ, ◌+◌, ◌≤◌, true, List, [], ◌∷◌, length, sym, ap, ◌∙◌, ⊎_elim, arith}
-use Rattle.std.specs.List.{ContainsAt as Has, AllByRecursion as All}
+use Rattle.std.specs.List.{ContainsAt as Has, AllByRecursion}
 use Rattle.std.proofs.ByRecursion.{All-weaker, all-has}
 use Rattle.std.proofs.lemmas.Bool.{cases_eq}
 use Rattle.frame.specs.Frames.{FrameSpec}
@@ -52,7 +52,7 @@ module _ (f : FrameSpec) where
 
   -- at most as many legs are sent in a slot as there are channels
   slot-room : (sets : List (List ℕ)) (s : ℕ) (p : List ℕ) → fits f.legs p ≡ true → Run f s p sets → (t : ℕ) (is : List ℕ) →
-      Distinct is → All (SentIn f s p sets t) is → length is ≤ f.channels
+      Distinct is → AllByRecursion (SentIn f s p sets t) is → length is ≤ f.channels
   slot-room [] s p ok run t [] d h = omega arith
   slot-room [] s p ok run t (i ∷ is) d h = absurd (none_left f p i h.0.0 run h.0.1)
   slot-room (set ∷ sets) s p ok (intime, now, run) t is d h =

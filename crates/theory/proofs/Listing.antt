@@ -1,6 +1,6 @@
 -- The placements of a run: how many, and in which order.
 use Rattle.std.proofs.Common.{◌≡◌, ℕ, suc, ◌+◌, ◌<◌, ◌≤◌, true, ◌⊎◌, List, [], ◌∷◌, ◌++◌, length, sum, refl, ap, inl, inr, ⊎_elim, arith, length-append}
-use Rattle.std.specs.List.{AllByRecursion as All}
+use Rattle.std.specs.List.{AllByRecursion}
 use Rattle.std.proofs.ByRecursion.{All-weaker}
 use Rattle.frame.specs.declared.placement.Placement.{Placement}
 use Rattle.frame.specs.Legs.{hop_total}
@@ -14,7 +14,7 @@ use Rattle.theory.proofs.Runs.{Run}
 use Rattle.theory.proofs.Cells.{fits_next}
 
 -- one that comes before all of a list may stand in front of it
-in_order_cons : (a : Placement) (ps : List Placement) → All (Before a) ps → InOrder ps → InOrder (a ∷ ps)
+in_order_cons : (a : Placement) (ps : List Placement) → AllByRecursion (Before a) ps → InOrder ps → InOrder (a ∷ ps)
 in_order_cons a [] h o = tt
 in_order_cons a (b ∷ bs) h o = (h.0, o)
 
@@ -29,8 +29,8 @@ module _ (f : FrameSpec) where
   length-placed (i ∷ is) s p o = ap suc (length-placed is s p (o + 1))
 
   -- a set's placements, with later ones behind them, are from the offset on
-  placed-from : (set : List ℕ) (s : ℕ) (p : List ℕ) (o : ℕ) (ps : List Placement) → All (λ q. s < q.slot) ps →
-      All (From s o) (placed_from f s p o set ++ ps)
+  placed-from : (set : List ℕ) (s : ℕ) (p : List ℕ) (o : ℕ) (ps : List Placement) → AllByRecursion (λ q. s < q.slot) ps →
+      AllByRecursion (From s o) (placed_from f s p o set ++ ps)
   placed-from [] s p o ps late = All-weaker (λ q. s < q.slot) (From s o) (λ q l. inl l) ps late
   placed-from (i ∷ is) s p o ps late = (
     inr (refl, omega arith),
@@ -40,7 +40,7 @@ module _ (f : FrameSpec) where
   )
 
   -- and in order
-  in_order_from : (set : List ℕ) (s : ℕ) (p : List ℕ) (o : ℕ) (ps : List Placement) → All (λ q. s < q.slot) ps → InOrder ps →
+  in_order_from : (set : List ℕ) (s : ℕ) (p : List ℕ) (o : ℕ) (ps : List Placement) → AllByRecursion (λ q. s < q.slot) ps → InOrder ps →
       InOrder (placed_from f s p o set ++ ps)
   in_order_from [] s p o ps late order = order
   in_order_from (i ∷ is) s p o ps late order =
@@ -50,7 +50,7 @@ module _ (f : FrameSpec) where
       (in_order_from is s p (o + 1) ps late order)
 
   -- the placements of sets from slot s on have slots from s on
-  placed-slots : (sets : List (List ℕ)) (s : ℕ) (p : List ℕ) → All (λ q. s ≤ q.slot) (placed_all f s p sets)
+  placed-slots : (sets : List (List ℕ)) (s : ℕ) (p : List ℕ) → AllByRecursion (λ q. s ≤ q.slot) (placed_all f s p sets)
   placed-slots [] s p = tt
   placed-slots (set ∷ sets) s p =
       All-weaker (From s 0) (λ q. s ≤ q.slot) (λ q. ⊎_elim (λ l. omega arith) (λ h. omega (arith, h.0)))

@@ -9,15 +9,15 @@ apart_more : (a : Placement) (bs : List Placement) (i : ℕ) (d : Placement) (b 
     apart a (drop i bs) ≡ (not b && apart a (drop (i + 1) bs))
 apart_more a bs i d b h e = at_drop_more (apart a) bs i d h ∙ ap (λ m. not m && apart a (drop (i + 1) bs)) (sym e)
 
-pub returns-then-share-device : goal.returns-then-share-device
-returns-then-share-device c =
+pub returns-then-share_device : goal.returns-then-share_device
+returns-then-share_device c =
     sym (c.loop-other.invariant ∙ apart_more c.args.new.now c.args.others.now c.loop-other.other-index _ true
-    c.loop-other-test.true c.if-share-device.ensures)
+    c.loop-other-test.true c.if-share_device.ensures)
 
 pub loop-other-preserved : goal.loop-other-preserved
 loop-other-preserved c =
     c.loop-other.invariant ∙ apart_more c.args.new.now c.args.others.now c.loop-other.other-index _ false
-    c.loop-other-test.true c.if-share-device.ensures
+    c.loop-other-test.true c.if-share_device.ensures
 
 pub returns : goal.returns
 returns c =

@@ -10,8 +10,8 @@ use Rattle.theory.proofs.Chosen.{sized_below}
 use Rattle.walk.specs.Filling.{placed_at}
 use Rattle.walk.proofs.cell.placement.Goals as goal
 
-pub offset-bounds-legs-leg : goal.offset-bounds-legs-leg
-offset-bounds-legs-leg c =
+pub offset_bounds-legs-leg : goal.offset_bounds-legs-leg
+offset_bounds-legs-leg c =
     let below = sized_below (frame_spec c.args.frame.now) c.args.leg c.args.done c.requires in
     search rules
 
@@ -27,8 +27,8 @@ bounds-leg-done c =
     c.index-legs-leg.result (omega arith) c.index-legs-leg.is in
     omega (arith, c.index-legs-leg.result.few)
 
-pub overflow-add-result : goal.overflow-add-result
-overflow-add-result c =
+pub overflow_add-result : goal.overflow_add-result
+overflow_add-result c =
     let below = sized_below (frame_spec c.args.frame.now) c.args.leg c.args.done c.requires in
     let size = frame-size (frame_spec c.args.frame.now) c.legs.result.now c.legs.ensures.seen c.args.leg
     c.index-legs-leg.result (omega arith) c.index-legs-leg.is in

@@ -9,8 +9,8 @@ use Rattle.walk.specs.Outcomes.{Keys}
 use Rattle.walk.proofs.Entering.{order_ready, order_room, listed-legs, listed-count, listed-first}
 use Rattle.walk.proofs.enter.enter.Goals as goal
 
-pub overflow-cast-len : goal.overflow-cast-len
-overflow-cast-len g c =
+pub overflow_cast-len : goal.overflow_cast-len
+overflow_cast-len g c =
     let h = fits_sum (frame_spec c.args.frame.now).legs c.args.progress.now c.requires.fits in
     let few : c.len.result ≤ 2048 = omega (arith, c.args.frame.now.light, c.len.ensures, c.requires.counted) in
     search rules
@@ -20,10 +20,10 @@ fill-requires g c =
     let f : FrameSpec = frame_spec c.args.frame.now in
     let p : List ℕ = c.args.progress.now in
     let key : Keys = g.R.Ranking.key c.args.ranking.now in
-    let legs = listed-legs f key c.args.slot p c.rank-legs-count.new.order c.rank-legs-count.result
-    c.rank-legs-count.ensures.ranked in
-    let count = listed-count f key c.args.slot p c.rank-legs-count.new.order c.rank-legs-count.result
-    c.rank-legs-count.ensures.ranked in
+    let legs = listed-legs f key c.args.slot p c.rank_legs-count.new.order c.rank_legs-count.result
+    c.rank_legs-count.ensures.ranked in
+    let count = listed-count f key c.args.slot p c.rank_legs-count.new.order c.rank_legs-count.result
+    c.rank_legs-count.ensures.ranked in
     let room = order_room f key c.args.slot p c.requires.fits in
     record {
       ready = subst (λ l. Ready f p l) (sym legs) (order_ready f key c.args.slot p c.requires.fits);
@@ -36,8 +36,8 @@ returns g c =
     let p : List ℕ = c.args.progress.now in
     let key : Keys = g.R.Ranking.key c.args.ranking.now in
     let base : List Placement = take c.args.trail.now.len c.args.trail.now.room.now in
-    let first = listed-first f key c.args.slot p c.rank-legs-count.new.order c.rank-legs-count.result
-    c.rank-legs-count.ensures.ranked in
+    let first = listed-first f key c.args.slot p c.rank_legs-count.new.order c.rank_legs-count.result
+    c.rank_legs-count.ensures.ranked in
     record {
       trail = c.fill.ensures.trail ∙ ap (λ l. base ++ placed_from f c.args.slot p 0 l) first;
       whole = c.fill.ensures.whole;

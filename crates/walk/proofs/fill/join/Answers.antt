@@ -10,8 +10,8 @@ bounds-progress-leg c =
     c.requires.left in
     omega arith
 
-pub bounds-progress-leg-then-is-apart : goal.bounds-progress-leg-then-is-apart
-bounds-progress-leg-then-is-apart c =
+pub bounds-progress-leg-then-is_apart : goal.bounds-progress-leg-then-is_apart
+bounds-progress-leg-then-is_apart c =
     let below = sized_below (frame_spec c.args.frame.now) c.args.leg (done_of c.args.progress.now c.args.leg)
     c.requires.left in
     omega arith

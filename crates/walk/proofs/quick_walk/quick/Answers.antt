@@ -11,11 +11,11 @@ returns g c =
     let key : Keys = g.R.Ranking.key c.args.ranking.now in
     let long = none-short (short_of f (length c.args.trail.now) (length c.args.marks.now) (length c.args.progress.now)
     (length c.args.grid.now))
-    _ _ c.in-ok-check-memory.ensures in
+    _ _ c.in_ok-check_memory.ensures in
     record {
-      gives = granted _ (quick_outcome f key) c.run-in.result long c.run-in.ensures.answer;
-      wrote = granted-grid _ (quick_outcome f key) c.args.grid.now c.run-in.new.grid long c.run-in.ensures.wrote;
+      gives = granted _ (quick_outcome f key) c.run_in.result long c.run_in.ensures.answer;
+      wrote = granted-grid _ (quick_outcome f key) c.args.grid.now c.run_in.new.grid long c.run_in.ensures.wrote;
       spared = (tt, tt, tt);
-      lawful = granted-lawful f key c.run-in.result c.args.grid.now c.run-in.new.grid c.run-in.ensures.answer
-          c.run-in.ensures.wrote;
+      lawful = granted-lawful f key c.run_in.result c.args.grid.now c.run_in.new.grid c.run_in.ensures.answer
+          c.run_in.ensures.wrote;
     }

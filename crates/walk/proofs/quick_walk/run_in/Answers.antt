@@ -17,8 +17,8 @@ run-answer-requires g c =
       slots = omega (arith, c.requires.marks, c.new-marks.ensures.whole);
     }
 
-pub copy-front-requires : goal.copy-front-requires
-copy-front-requires g c =
+pub copy_front-requires : goal.copy_front-requires
+copy_front-requires g c =
     let held = length-take-le c.run-answer.new.trail.len c.run-answer.new.trail.room.now
     c.run-answer.new.trail.fits in
     let same = ap length c.from.ensures in
@@ -34,8 +34,8 @@ returns-in-Grid g c =
     record {
       answer = c.run-answer.ensures.answer;
       wrote = grid-written o c.in-Grid.field-0 (take c.run-answer.new.trail.len c.run-answer.new.trail.room.now)
-          c.args.grid.now c.copy-front.new.room c.in-Grid.ensures.answer c.run-answer.ensures.shown
-          (copied _ _ c.args.grid.now c.copy-front.new.room c.from.ensures c.copy-front.ensures);
+          c.args.grid.now c.copy_front.new.room c.in-Grid.ensures.answer c.run-answer.ensures.shown
+          (copied _ _ c.args.grid.now c.copy_front.new.room c.from.ensures c.copy_front.ensures);
     }
 
 pub returns-in-Missed : goal.returns-in-Missed

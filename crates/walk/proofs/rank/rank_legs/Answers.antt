@@ -24,11 +24,11 @@ loop-leg-init g c =
 pub insert-requires : goal.insert-requires
 insert-requires g c = omega (arith, c.loop-leg.invariant.0)
 
-pub overflow-add-count : goal.overflow-add-count
-overflow-add-count g c = search rules
+pub overflow_add-count : goal.overflow_add-count
+overflow_add-count g c = search rules
 
-pub loop-leg-preserved-then-is-released : goal.loop-leg-preserved-then-is-released
-loop-leg-preserved-then-is-released g c =
+pub loop-leg-preserved-then-is_released : goal.loop-leg-preserved-then-is_released
+loop-leg-preserved-then-is_released g c =
     let leg : ℕ = c.loop-leg.leg in
     let key : ℕ → ℤ = g.R.Ranking.key c.args.ranking.now (frame_spec c.args.frame.now) c.args.slot
     c.args.progress.now in
@@ -37,7 +37,7 @@ loop-leg-preserved-then-is-released g c =
       c.insert.ensures
           ∙ inserted_more (leg - 1) (to_z-of_z w32 _ fits ∙ c.rank-key.ensures) c.loop-leg.invariant.1
           ∙ sym (entries-more (frame_spec c.args.frame.now) key c.args.slot c.args.progress.now (leg - 1) leg
-          (length c.legs-legs.result.now) (omega arith) (omega arith) (sym c.if-is-released.ensures)),
+          (length c.legs-legs.result.now) (omega arith) (omega arith) (sym c.if-is_released.ensures)),
     )
 
 pub loop-leg-preserved : goal.loop-leg-preserved
@@ -48,7 +48,7 @@ loop-leg-preserved g c =
       omega arith,
       c.loop-leg.invariant.1
           ∙ sym (entries_same (frame_spec c.args.frame.now) key c.args.slot c.args.progress.now (leg - 1) leg
-          (length c.legs-legs.result.now) (omega arith) (omega arith) (sym c.if-is-released.ensures)),
+          (length c.legs-legs.result.now) (omega arith) (omega arith) (sym c.if-is_released.ensures)),
     )
 
 pub returns : goal.returns

@@ -17,23 +17,23 @@ loop-marks-init g c = (
   refl,
 )
 
-pub overflow-cast-slot : goal.overflow-cast-slot
-overflow-cast-slot g c =
+pub overflow_cast-slot : goal.overflow_cast-slot
+overflow_cast-slot g c =
     let h : c.len.result ≤ 1024 = omega (arith, c.loop-marks.invariant.0.early, c.args.frame.now.short, c.len.ensures) in
     search rules
 
-pub overflow-add-slot : goal.overflow-add-slot
-overflow-add-slot g c =
+pub overflow_add-slot : goal.overflow_add-slot
+overflow_add-slot g c =
     let h : c.len.result ≤ 1024 = omega (arith, c.loop-marks.invariant.0.early, c.args.frame.now.short, c.len.ensures) in
     search rules
 
-pub returns-then-is-overdue : goal.returns-then-is-overdue
-returns-then-is-overdue g c =
+pub returns-then-is_overdue : goal.returns-then-is_overdue
+returns-then-is_overdue g c =
     let f : FrameSpec = frame_spec c.args.frame.now in
     let key : Keys = g.R.Ranking.key c.args.ranking.now in
     let trail : List Placement = take c.loop-marks.trail.len c.loop-marks.trail.room.now in
     let e = misses f key c.loop-marks.marks.len trail c.loop-marks.progress c.loop-marks.invariant.0 (c.len.result + 1)
-    (ap (λ n. n + 1) c.len.ensures) (sym c.loop-marks-test.ensures) (sym c.if-is-overdue.ensures) in
+    (ap (λ n. n + 1) c.len.ensures) (sym c.loop-marks-test.ensures) (sym c.if-is_overdue.ensures) in
     let held = length-take-le c.loop-marks.trail.len c.loop-marks.trail.room.now c.loop-marks.trail.fits in
     record {
       answer = sym (ap answered e);
@@ -53,7 +53,7 @@ enter-requires g c =
     let trail : List Placement = take c.loop-marks.trail.len c.loop-marks.trail.room.now in
     let on = c.loop-marks.invariant.0 in
     let in-slots = in_frame f key c.loop-marks.marks.len trail c.loop-marks.progress on (c.len.result + 1)
-    (ap (λ n. n + 1) c.len.ensures) (sym c.loop-marks-test.ensures) (sym c.if-is-overdue.ensures)
+    (ap (λ n. n + 1) c.len.ensures) (sym c.loop-marks-test.ensures) (sym c.if-is_overdue.ensures)
     c.args.frame.now.timely in
     let held = length-take-le c.loop-marks.trail.len c.loop-marks.trail.room.now c.loop-marks.trail.fits in
     record {
@@ -70,7 +70,7 @@ loop-marks-smaller g c =
     let key : Keys = g.R.Ranking.key c.args.ranking.now in
     let trail : List Placement = take c.loop-marks.trail.len c.loop-marks.trail.room.now in
     let in-slots = in_frame f key c.loop-marks.marks.len trail c.loop-marks.progress c.loop-marks.invariant.0 (c.len.result + 1)
-    (ap (λ n. n + 1) c.len.ensures) (sym c.loop-marks-test.ensures) (sym c.if-is-overdue.ensures)
+    (ap (λ n. n + 1) c.len.ensures) (sym c.loop-marks-test.ensures) (sym c.if-is_overdue.ensures)
     c.args.frame.now.timely in
     omega (arith, in-slots, c.len.ensures, c.enter.ensures.marked)
 
@@ -80,7 +80,7 @@ loop-marks-preserved g c =
     let key : Keys = g.R.Ranking.key c.args.ranking.now in
     let trail : List Placement = take c.loop-marks.trail.len c.loop-marks.trail.room.now in (
       goes_on f key c.loop-marks.marks.len trail c.loop-marks.progress c.loop-marks.invariant.0 (c.len.result + 1)
-          (ap (λ n. n + 1) c.len.ensures) (sym c.loop-marks-test.ensures) (sym c.if-is-overdue.ensures)
+          (ap (λ n. n + 1) c.len.ensures) (sym c.loop-marks-test.ensures) (sym c.if-is_overdue.ensures)
           c.args.frame.now.timely c.enter.new.marks.len _ _
           c.enter.ensures.marked c.enter.ensures.trail c.enter.ensures.progress,
       c.enter.ensures.whole ∙ c.loop-marks.invariant.1,
