@@ -11,17 +11,17 @@ use Rattle.legs.proofs.expansion.expand.Goals as goal
 use Rattle.legs.proofs.expansion.expand.Goals.{In-loop-flow}
 
 -- the flows that the code goes through have at most 2,048 transmissions
-light : (c : In-loop-flow) → transmissions_in c.frame-slots.result (map flow_spec c.as-slice-flow-items.result.now) ≤ 2048
+light : (c : In-loop-flow) → transmissions_in c.frame-slots.result (map flow_spec c.as_slice-flow-items.result.now) ≤ 2048
 light c =
     let flows = flows_in c.args.table.now in
     let is =
-    ap (transmissions_in c.frame-slots.result) c.as-slice-flow-items.ensures.value
+    ap (transmissions_in c.frame-slots.result) c.as_slice-flow-items.ensures.value
     ∙ ap (λ t. transmissions_in t flows) c.frame-slots.ensures.value in
     omega (arith, is, c.args.table.now.light)
 
-pub push-flow-requires : goal.push-flow-requires
-push-flow-requires c =
-    let fs = c.as-slice-flow-items.result.now in
+pub push_flow-requires : goal.push_flow-requires
+push_flow-requires c =
+    let fs = c.as_slice-flow-items.result.now in
     let f = c.flow-item.result in
     let l = c.loop-flow in
     let i = l.flow-index in
@@ -35,7 +35,7 @@ push-flow-requires c =
         arith,
         fits,
         legs-few t fs,
-        light (goal.at.push-flow-requires c).In-loop-flow,
+        light (goal.at.push_flow-requires c).In-loop-flow,
         l.legs.ok.0,
         l.invariant.1,
         c.clear.ensures.capacity,
@@ -45,27 +45,27 @@ push-flow-requires c =
 
 pub loop-flow-preserved : goal.loop-flow-preserved
 loop-flow-preserved c =
-    let fs = c.as-slice-flow-items.result.now in
+    let fs = c.as_slice-flow-items.result.now in
     let f = c.flow-item.result in
     let l = c.loop-flow in
     let i = l.flow-index in (
       next-joins (flow_legs c.frame-slots.result) (map flow_spec fs) i (flow_spec f)
-          (map leg_spec (vec_items c.push-flow.new.legs)) (map leg_spec (vec_items l.legs)) []
+          (map leg_spec (vec_items c.push_flow.new.legs)) (map leg_spec (vec_items l.legs)) []
           (omega (arith, length-map fs flow_spec, c.loop-flow-test.true))
-          (read_map flow_spec fs i f c.loop-flow-test.true c.flow-item.is) l.invariant.0 c.push-flow.ensures.value,
-      c.push-flow.ensures.capacity ∙ l.invariant.1,
+          (read_map flow_spec fs i f c.loop-flow-test.true c.flow-item.is) l.invariant.0 c.push_flow.ensures.value,
+      c.push_flow.ensures.capacity ∙ l.invariant.1,
     )
 
 pub returns : goal.returns
 returns c =
-    let fs = map flow_spec c.as-slice-flow-items.result.now in
+    let fs = map flow_spec c.as_slice-flow-items.result.now in
     let all =
     take_all c.loop-flow.flow-index fs
-    (omega (arith, length-map c.as-slice-flow-items.result.now flow_spec, c.loop-flow-test.false)) in
+    (omega (arith, length-map c.as_slice-flow-items.result.now flow_spec, c.loop-flow-test.false)) in
     record {
       value =
           c.loop-flow.invariant.0
-          ∙ ap (legs_of c.frame-slots.result) (all ∙ c.as-slice-flow-items.ensures.value)
+          ∙ ap (legs_of c.frame-slots.result) (all ∙ c.as_slice-flow-items.ensures.value)
           ∙ ap (λ t. legs_of t (flows_in c.args.table.now)) c.frame-slots.ensures.value;
       capacity = c.loop-flow.invariant.1 ∙ c.clear.ensures.capacity;
     }

@@ -9,8 +9,8 @@ use Rattle.legs.proofs.Totals.{turn_ends}
 use Rattle.legs.proofs.Walks.{counted_read, next_fits, next-joins}
 use Rattle.legs.proofs.expansion.push_flow.Goals as goal
 
-pub push-packet-requires : goal.push-packet-requires
-push-packet-requires c =
+pub push_packet-requires : goal.push_packet-requires
+push_packet-requires c =
     let f = c.args.flow.now in
     let n = c.args.slots / f.period in
     let l = c.loop-packet in
@@ -31,10 +31,10 @@ loop-packet-preserved c =
     let l = c.loop-packet in
     let old = map leg_spec (vec_items c.args.legs.now) in (
       next-joins (packet_legs (flow_spec f)) (range_with_len 0 n) l.packet l.packet
-          (map leg_spec (vec_items c.push-packet.new.legs)) (map leg_spec (vec_items l.legs)) old
+          (map leg_spec (vec_items c.push_packet.new.legs)) (map leg_spec (vec_items l.legs)) old
           (omega (arith, length-range_with_len 0 n, c.loop-packet-test.true)) (counted_read n l.packet c.loop-packet-test.true)
-          l.invariant.0 c.push-packet.ensures.value,
-      c.push-packet.ensures.capacity ∙ l.invariant.1,
+          l.invariant.0 c.push_packet.ensures.value,
+      c.push_packet.ensures.capacity ∙ l.invariant.1,
     )
 
 pub returns : goal.returns

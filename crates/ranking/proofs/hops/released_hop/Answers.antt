@@ -16,26 +16,26 @@ within c =
       arith,
       c.legs.ensures.len,
       next-leg f c.args.slot c.args.progress.now c.args.leg
-          (ready_released f c.args.slot c.args.progress.now c.args.leg c.if-not-is-ready.ensures),
+          (ready_released f c.args.slot c.args.progress.now c.args.leg c.if-not-is_ready.ensures),
     )
 
-pub offset-bounds-legs-leg : goal.offset-bounds-legs-leg
-offset-bounds-legs-leg c = let h = within c in search rules
+pub offset_bounds-legs-leg : goal.offset_bounds-legs-leg
+offset_bounds-legs-leg c = let h = within c in search rules
 
 pub bounds-legs-leg : goal.bounds-legs-leg
 bounds-legs-leg c = within c
 
-pub read-hop-requires : goal.read-hop-requires
-read-hop-requires c =
+pub read_hop-requires : goal.read_hop-requires
+read_hop-requires c =
     let f = frame_spec c.args.frame.now in
     let x = c.index-legs-leg in
     omega (
       arith,
       c.done.ensures,
       next-undone f c.args.slot c.args.progress.now c.args.leg
-          (ready_released f c.args.slot c.args.progress.now c.args.leg c.if-not-is-ready.ensures),
+          (ready_released f c.args.slot c.args.progress.now c.args.leg c.if-not-is_ready.ensures),
       frame-size f c.legs.result.now c.legs.ensures.seen c.args.leg x.result
-          (within (goal.at.read-hop-requires c).After-legs) x.is,
+          (within (goal.at.read_hop-requires c).After-legs) x.is,
     )
 
 pub returns : goal.returns
@@ -46,5 +46,5 @@ returns c =
     let i = c.args.leg in
     let x = c.index-legs-leg in
     let leg = frame-leg f c.legs.result.now c.legs.ensures.seen i x.result (within (goal.at.returns c).After-legs) x.is in
-    ap Some (c.read-hop.ensures ∙ ap (hop_in (leg_spec x.result)) c.done.ensures ∙ ap (λ l. hop_in l (done_of p i)) (sym leg))
-    ∙ ap (λ b. cond b (Some (hop_of f p i)) None) c.if-not-is-ready.ensures
+    ap Some (c.read_hop.ensures ∙ ap (hop_in (leg_spec x.result)) c.done.ensures ∙ ap (λ l. hop_in l (done_of p i)) (sym leg))
+    ∙ ap (λ b. cond b (Some (hop_of f p i)) None) c.if-not-is_ready.ensures

@@ -14,11 +14,11 @@ returns-in-Some c =
     let p = c.args.progress.now in
     let i = c.args.leg in
     let hop = c.in-Some.hop in
-    let fits : SFits w32 c.least-slack.result = search rules in
-    let is : to_z w32 (of_z w32 c.least-slack.result) ≡ conflict_aware f s p i =
-    to_z-of_z w32 c.least-slack.result fits
-    ∙ laxity_is f s p i hop c.visits.result.now c.least-slack.result c.in-Some.ensures c.visits.ensures.value
-    c.least-slack.ensures in
+    let fits : SFits w32 c.least_slack.result = search rules in
+    let is : to_z w32 (of_z w32 c.least_slack.result) ≡ conflict_aware f s p i =
+    to_z-of_z w32 c.least_slack.result fits
+    ∙ laxity_is f s p i hop c.visits.result.now c.least_slack.result c.in-Some.ensures c.visits.ensures.value
+    c.least_slack.ensures in
     record {
       value = is;
       bounds = subst (λ (z : ℤ). LaxityBounds f s p z) (sym is) (laxity_bounds f s p i frame.short frame.timely frame.light);
