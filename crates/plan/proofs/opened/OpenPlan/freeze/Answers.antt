@@ -3,8 +3,8 @@ use Rattle.table.specs.Tables.{flows_in}
 use Rattle.legs.proofs.Frames.{frame_of_map}
 use Rattle.plan.proofs.opened.OpenPlan.freeze.Goals as goal
 
-pub invariant-of-result : goal.invariant-of-result
-invariant-of-result c =
+pub invariant_of-result : goal.invariant_of-result
+invariant_of-result c =
     let p = c.args.self in
-    let is = c.frame-of-frame.ensures ∙ frame_of_map (flows_in p.table) _ _ c.count.ensures.value in
-    (p.sound, (∣ is ∣₁, tt))
+    let is = c.frame_of-frame.ensures ∙ frame_of_map (flows_in p.table) _ _ c.count.ensures.value in
+    record { sound = p.sound; framed = ∣ is ∣₁ }
