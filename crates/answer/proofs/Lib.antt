@@ -1,3 +1,3 @@
 pub mod Digits
+pub mod Pages
 pub mod Put
-pub mod Rest

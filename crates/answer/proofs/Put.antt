@@ -1,11 +1,11 @@
 -- Laws of `put`.
-use Rattle.std.proofs.Common.{◌≡◌, ℕ, ◌+◌, ◌<◌, ◌≤◌, leb, List, [], ◌++◌, length, drop, Some, None, sym, refl, ◌∙◌, add-zero, zero-add}
+use Rattle.std.proofs.Common.{◌≡◌, ℕ, ◌+◌, ◌≤◌, leb, List, ◌++◌, length, drop, Some, sym, ap, refl, arith, ◌∙◌, zero-add}
 use borrow.Rule.Slice.PartMut.{put_mid}
 use lib.Seq.{paste}
-use Rattle.std.proofs.lemmas.List.Edits.{paste_all, paste-paste}
-use Rattle.std.proofs.lemmas.List.{length-append, take-append-drop}
+use Rattle.std.proofs.lemmas.List.Edits.{paste_all, paste-paste, length-paste}
+use Rattle.std.proofs.lemmas.List.{length-append}
 use Rattle.std.proofs.lemmas.Slice.{put_mid-paste}
-use Rattle.std.proofs.lemmas.Bool.{le-leb, lt-leb, cond-true, cond-false}
+use Rattle.std.proofs.lemmas.Bool.{le-leb, cond-true}
 use Rattle.answer.specs.Put.{put, fit_length, fitted}
 
 -- `put` as the library says it
@@ -13,14 +13,14 @@ put_paste : (d : List ℕ) (at n : ℕ) (s : List ℕ) → n ≡ length s → pa
 unfolding put
 put_paste d at n s e = rw (← e) (paste_all d at s n e)
 
--- to put nothing changes nothing
-pub put-none : (d : List ℕ) (at : ℕ) → put d at [] ≡ d
-unfolding put
-put-none d at = rw add-zero (take-append-drop at d)
-
 -- a part of the memory overwritten is the bytes put there
 pub put_part : (d : List ℕ) (at n : ℕ) (now s : List ℕ) → now ≡ s → length s ≡ n → put_mid at n d now ≡ put d at s
 put_part d at n now s e h = put_mid-paste at n d now s n e refl (sym h) ∙ put_paste d at n s (sym h)
+
+-- bytes put where they fit leave the length of the memory
+pub length-put : (d : List ℕ) (at : ℕ) (s : List ℕ) → at + length s ≤ length d → length (put d at s) ≡ length d
+length-put d at s fits =
+    ap length (sym (put_paste d at (length s) s refl)) ∙ length-paste d at s (length s) fits (omega arith)
 
 -- bytes put at the front
 pub put_front : (d bytes : List ℕ) → put d 0 bytes ≡ bytes ++ drop (length bytes) d
@@ -44,10 +44,3 @@ fits bytes room h =
     let test = leb (length bytes) (length room) in
     let yes' = le-leb (length bytes) (length room) h in
     (cond-true test _ _ yes', cond-true test _ _ yes' ∙ sym (put_front room bytes))
-
--- bytes that do not fit change nothing
-pub fits_not : (bytes room : List ℕ) → length room < length bytes → (fit_length bytes room ≡ None) × (fitted bytes room ≡ room)
-fits_not bytes room h =
-    let test = leb (length bytes) (length room) in
-    let no' = lt-leb (length bytes) (length room) h in
-    (cond-false test _ _ no', cond-false test _ _ no')

@@ -1,18 +1,16 @@
 -- The bytes of an answer.
-use Rattle.std.specs.Prelude.{ℕ, List, [], ◌∷◌, ◌++◌, codes, decimal}
-use Rattle.answer.specs.declared.kinds.Answer.{Answer}
-use Rattle.answer.specs.declared.kinds.Answer.TheVariants.{Granted, Refused}
+use Rattle.std.specs.Prelude.{ℕ, List, ◌∷◌, ◌++◌, codes, decimal, Result, Ok, Err}
+use Rattle.answer.specs.declared.refusal.Refusal.{Refusal}
 
--- numbers in decimal, each with a space before it
-abbrev pub number_bytes : List ℕ → List ℕ
-number_bytes [] = []
-number_bytes (n ∷ ns) = (32 ∷ decimal n) ++ number_bytes ns
+-- a number in decimal, with a space before it
+abbrev pub spaced : ℕ → List ℕ
+spaced n = 32 ∷ decimal n
 
--- the number of a line, a word with a space before it, numbers, and the end of the line (byte 10)
-unfoldable pub line_bytes : ℕ → List ℕ → List ℕ → List ℕ
-line_bytes line word numbers = decimal line ++ (word ++ (number_bytes numbers ++ (10 ∷ [])))
+-- ` NUMBER FLOW ROUTE POSITION`
+abbrev pub refusal_bytes : Refusal → List ℕ
+refusal_bytes r = spaced r.number ++ (spaced r.flow ++ (spaced r.route ++ spaced r.position))
 
--- `LINE ok`, or `LINE refused NUMBER FLOW ROUTE POSITION`
-abbrev pub answer_bytes : ℕ → Answer → List ℕ
-answer_bytes line Granted = line_bytes line (codes " ok") []
-answer_bytes line (Refused r) = line_bytes line (codes " refused") (r.number ∷ r.flow ∷ r.route ∷ r.position ∷ [])
+-- `LINE ok`, or `LINE refused NUMBER FLOW ROUTE POSITION`, and the end of the line
+abbrev pub answer_bytes : ℕ → Result (Unit {0}) Refusal → List ℕ
+answer_bytes line (Ok _) = decimal line ++ codes " ok\n"
+answer_bytes line (Err r) = decimal line ++ (codes " refused" ++ (refusal_bytes r ++ codes "\n"))

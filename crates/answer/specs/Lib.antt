@@ -1,2 +1,3 @@
 pub mod Bytes
+pub mod Page
 pub mod Put

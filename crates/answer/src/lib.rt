@@ -1,11 +1,9 @@
 // The answers of a console, written as bytes into memory that the caller lends.
 #![tactic(auto)]
 
-mod kinds;
-mod line;
-mod number;
-mod numbers;
-mod text;
+mod page;
+mod refusal;
+mod write;
 
-pub use kinds::{Answer, Refusal};
-pub use line::write_answer;
+pub use refusal::Refusal;
+pub use write::write_answer;

@@ -1,5 +1,6 @@
 -- What the console does with the bytes that it receives.
-use Rattle.std.specs.Prelude.{ℕ, ◌+◌, min, cond, List, [], ◌∷◌, ◌++◌, length, Some, None, Ok, Err, Option, Result, ◌==◌}
+use Rattle.std.specs.Prelude.{ℕ, ◌+◌, min, if◌then◌else◌, List, [], ◌∷◌, ◌++◌, length, Some, None, Ok, Err, Option, Result, ◌==◌}
+use Rattle.std.specs.Option.{ok_or}
 use Rattle.flow.specs.Outcomes.{and_then}
 use Rattle.table.specs.declared.fault.PlanFault.{PlanFault}
 use Rattle.calls.specs.Calls.{Call}
@@ -16,8 +17,7 @@ fault n rule = record { line = n; rule = rule }
 
 -- what a line spells, or that line n is unreadable
 abbrev pub legible_at : {A : Type 0} → ℕ → Option A → Result A ConsoleFault
-legible_at n (Some call) = Ok call
-legible_at n None = Err (fault n Unreadable)
+legible_at n o = ok_or o (fault n Unreadable)
 
 -- the plan's answer, at line n
 abbrev pub result_at_line : ℕ → Result (Unit {0}) PlanFault → Result Granted ConsoleFault
@@ -57,16 +57,17 @@ line_entered k = record { journal = after_line (read_line_of k.line) k.journal; 
 
 -- one byte more: byte 10 ends the line
 abbrev pub received : ℕ → Book → Book
-received b k = cond (b == 10) (line_entered k) (record { journal = k.journal; lines = k.lines; line = k.line ++ b ∷ [] })
+received b k =
+    if b == 10 then line_entered k else record { journal = k.journal; lines = k.lines; line = k.line ++ b ∷ [] }
 
 -- the reply that it brings
 abbrev pub reply : ℕ → Book → Option (Result Granted ConsoleFault)
-reply b k = cond (b == 10) (Some (line_reply k)) None
+reply b k = if b == 10 then Some (line_reply k) else None
 
 -- the end of the input: a last line without byte 10 is a line, unless it is empty
 abbrev pub last_reply : Book → Option (Result Granted ConsoleFault)
-last_reply k = cond (length k.line == 0) None (Some (line_reply k))
+last_reply k = if length k.line == 0 then None else Some (line_reply k)
 
 -- the journal after it
 abbrev pub last_journal : Book → Journal
-last_journal k = cond (length k.line == 0) k.journal (line_entered k).journal
+last_journal k = if length k.line == 0 then k.journal else (line_entered k).journal

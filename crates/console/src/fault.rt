@@ -1,7 +1,10 @@
+ghost use Rattle.std.specs.Prelude.{◌≡◌};
+ghost use Rattle.console.specs.declared.fault.ConsoleRule.TheVariants.{Plan};
+
 use table::PlanFault;
 
 // Why a line is refused, or its answer cannot be given.
-#[derive(Clone, Copy)]
+#[derive(Clone, Copy, Debug, PartialEq, Eq)]
 pub enum ConsoleRule {
     // the line is none that the console knows
     Unreadable,
@@ -11,15 +14,24 @@ pub enum ConsoleRule {
     Memory,
 }
 
+impl From<PlanFault> for ConsoleRule {
+    ghost from_gives = { λ fault rule. rule ≡ Plan fault };
+
+    fn from(fault: PlanFault) -> ConsoleRule {
+        ConsoleRule::Plan(fault)
+    }
+}
+
 // The first rule that a line breaks, and the line's number.
-#[derive(Clone, Copy)]
+#[derive(Clone, Copy, Debug, PartialEq, Eq)]
 pub struct ConsoleFault {
     pub line: u32,
     pub rule: ConsoleRule,
 }
 
 // A line whose call was granted, by its number.
-#[derive(Clone, Copy)]
+// The line stands here and in `ConsoleFault` too: a fault goes up by `?` with the line that the console adds to it.
+#[derive(Clone, Copy, Debug, PartialEq, Eq)]
 pub struct Granted {
     pub line: u32,
 }

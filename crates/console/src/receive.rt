@@ -1,10 +1,10 @@
 ghost use Rattle.std.specs.Prelude.{◌≡◌, IfOk};
-ghost use Rattle.plan.specs.Plans.{OpenAfter};
-ghost use Rattle.console.specs.Book.{Book, opened, received, reply, last_reply, last_journal};
+ghost use Rattle.plan.specs.Plans.{After};
+ghost use Rattle.console.specs.Book.{Book, opened, received, reply, last_reply, last_journal, line_reply, line_entered};
 ghost use Rattle.console.specs.Consoles.{Keeps};
 
-use crate::fault::{ConsoleFault, Granted};
-use crate::obey::answer_line;
+use crate::fault::{ConsoleFault, ConsoleRule, Granted};
+use crate::obey::obey;
 use crate::state::Console;
 use line::LineBuffer;
 use plan::OpenPlan;
@@ -18,60 +18,59 @@ impl Console {
     pub fn new(heap: Global) -> Result<Console, AllocError>
         ensures { IfOk result (Keeps opened) }
     {
-        let plan = OpenPlan::new(heap)?;
         Ok(Console {
-            plan,
+            plan: OpenPlan::new(heap)?,
             received: LineBuffer::new(),
             lines: 0,
         })
     }
 
+    // The console goes by value, here and in `finish`, as a plan does where it is frozen.
     // Takes one more byte. A newline ends the line, and the reply to it comes with the console.
-    pub fn receive(self, byte: u8) -> (Console, Option<Result<Granted, ConsoleFault>>)
+    pub fn receive(mut self, byte: u8) -> (Console, Option<Result<Granted, ConsoleFault>>)
         ensures { (k : Book) → Keeps k self → Keeps (received byte k) result.0 × (result.1 ≡ reply byte k) }
     {
-        let Console {
-            mut plan,
-            received: mut line,
-            lines,
-        } = self;
         if byte != NEWLINE {
-            line.push(byte);
-            return (
-                Console {
-                    plan,
-                    received: line,
-                    lines,
-                },
-                None,
-            );
+            self.received.push(byte);
+            return (self, None);
         }
-        let lines = lines.saturating_add(1);
-        let reply = answer_line(&mut plan, lines, &line);
-        line.clear();
-        (
-            Console {
-                plan,
-                received: line,
-                lines,
-            },
-            Some(reply),
-        )
+        let reply = self.answer_line();
+        (self, Some(reply))
     }
 
     // The end of the input. A last line without a newline is answered too, unless it is empty.
-    pub fn finish(self) -> (OpenPlan, Option<Result<Granted, ConsoleFault>>)
-        ensures { (k : Book) → Keeps k self → OpenAfter (last_journal k) result.0 × (result.1 ≡ last_reply k) }
+    pub fn finish(mut self) -> (OpenPlan, Option<Result<Granted, ConsoleFault>>)
+        ensures { (k : Book) → Keeps k self → After (last_journal k) result.0 × (result.1 ≡ last_reply k) }
+    {
+        if self.received.as_slice().is_empty() {
+            return (self.into_plan(), None);
+        }
+        let reply = self.answer_line();
+        (self.into_plan(), Some(reply))
+    }
+
+    // The plan, without what was received.
+    fn into_plan(self) -> OpenPlan
+        ensures { result ≡ self.plan }
     {
         let Console {
-            mut plan,
-            received: line,
-            lines,
+            plan,
+            received: _,
+            lines: _,
         } = self;
-        if line.as_slice().is_empty() {
-            return (plan, None);
-        }
-        let reply = answer_line(&mut plan, lines.saturating_add(1), &line);
-        (plan, Some(reply))
+        plan
+    }
+
+    // Answers the line that was received, and begins the next one.
+    fn answer_line(&mut self) -> Result<Granted, ConsoleFault>
+        ensures { (k : Book) → Keeps k self.old → Keeps (line_entered k) self.new × (result ≡ line_reply k) }
+    {
+        let call = self.received.read();
+        let line = self.lines.saturating_add(1);
+        self.received.clear();
+        self.lines = line;
+        let call = call.ok_or(ConsoleRule::Unreadable.at_line(line))?;
+        obey(&mut self.plan, call).map_err(|fault| ConsoleRule::from(fault).at_line(line))?;
+        Ok(Granted { line })
     }
 }

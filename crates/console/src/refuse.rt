@@ -1,4 +1,4 @@
-ghost use Rattle.std.specs.Prelude.{◌≡◌};
+ghost use Rattle.std.specs.Prelude.{◌≡◌, unwrap_or};
 ghost use Rattle.console.specs.Book.{fault};
 ghost use Rattle.console.specs.Refusals.{route_refusal_of, plan_refusal_of, refusal};
 
@@ -7,6 +7,7 @@ use answer::Refusal;
 use flow::RouteFault;
 use table::{PlanFault, PlanRule};
 
+// This and the next are functions and not `From`: neither of the two types is of this crate.
 // What a fault in a route of that flow says.
 fn route_refusal(flow: u16, fault: RouteFault) -> Refusal
     ensures { result ≡ route_refusal_of flow fault }
@@ -26,12 +27,13 @@ fn route_refusal(flow: u16, fault: RouteFault) -> Refusal
     }
 }
 
-// The number of a rule of the plan, but for those of routes.
+// What a fault of the plan says; a fault that names no flow is printed with flow 0.
 fn plan_refusal(fault: PlanFault) -> Refusal
-    ensures { result ≡ plan_refusal_of fault.flow fault.rule }
+    ensures { result ≡ plan_refusal_of (unwrap_or fault.flow 0) fault.rule }
 {
+    let flow = fault.flow.unwrap_or(0);
     let number = match fault.rule {
-        PlanRule::Route(route) => return route_refusal(fault.flow, route),
+        PlanRule::Route(route) => return route_refusal(flow, route),
         PlanRule::Number => 1,
         PlanRule::InForce => 2,
         PlanRule::NotInForce => 3,
@@ -46,7 +48,7 @@ fn plan_refusal(fault: PlanFault) -> Refusal
     };
     Refusal {
         number,
-        flow: fault.flow,
+        flow,
         route: 0,
         position: 0,
     }
@@ -59,12 +61,14 @@ impl ConsoleRule {
     {
         ConsoleFault { line, rule: self }
     }
+}
 
-    // The refusal's number, and the flow, route and position that it names.
-    pub fn refusal(self) -> Refusal
-        ensures { result ≡ refusal self }
-    {
-        match self {
+// The refusal's number, and the flow, route and position that it names.
+impl From<ConsoleRule> for Refusal {
+    ghost from_gives = { λ rule r. r ≡ refusal rule };
+
+    fn from(rule: ConsoleRule) -> Refusal {
+        match rule {
             ConsoleRule::Plan(fault) => plan_refusal(fault),
             ConsoleRule::Memory => Refusal {
                 number: 21,

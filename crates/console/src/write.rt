@@ -3,7 +3,7 @@ ghost use Rattle.answer.specs.Put.{fitted};
 ghost use Rattle.console.specs.Refusals.{reply_bytes, length_of, line_of};
 
 use crate::fault::{ConsoleFault, ConsoleRule, Granted};
-use answer::{Answer, write_answer};
+use answer::write_answer;
 
 // Writes the bytes of a reply at the front of `out` and gives their number. Where they do not fit, it refuses, and
 // `out` stays as it was.
@@ -16,11 +16,8 @@ pub fn write_reply(
     ensures wrote { out.new ≡ fitted (reply_bytes reply) out.old }
 {
     let (line, answer) = match reply {
-        Ok(granted) => (granted.line, Answer::Granted),
-        Err(fault) => (fault.line, Answer::Refused(fault.rule.refusal())),
+        Ok(granted) => (granted.line, Ok(())),
+        Err(fault) => (fault.line, Err(fault.rule.into())),
     };
-    match write_answer(line, answer, out) {
-        Some(length) => Ok(length),
-        None => Err(ConsoleRule::Memory.at_line(line)),
-    }
+    write_answer(line, answer, out).ok_or(ConsoleRule::Memory.at_line(line))
 }

@@ -11,11 +11,6 @@ pub unless-passed : {A E : Type 0} (o : Option E) (u : Unit {0}) (r : Result A E
 unless-passed None u r e = refl
 unless-passed (Some f) u r e = absurd (grind arith)
 
--- and it was passed since no fault was due
-pub passed_none : {E : Type 0} (o : Option E) (u : Unit {0}) → Ok u ≡ checked o → o ≡ None
-passed_none None u e = refl
-passed_none (Some f) u e = absurd (grind arith)
-
 -- a check that refused refuses any result
 pub unless_refused : {A E : Type 0} (o : Option E) (f : E) (r : Result A E) → Err f ≡ checked o → unless o r ≡ Err f
 unless_refused None f r e = absurd (grind arith)

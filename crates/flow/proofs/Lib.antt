@@ -1,5 +1,5 @@
 pub mod First
 pub mod Checks
-mod Joining
 pub mod Many
 mod Spelt
+pub mod Totals

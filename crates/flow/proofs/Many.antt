@@ -1,6 +1,6 @@
 -- The loop over the routes in the bytes.
 use Rattle.std.proofs.Common.{◌≡◌, ℕ, zero, suc, ◌+◌, ◌-◌, ◌<◌, Bool, true, false, cond, ◌&&◌, eqb, ltb, leb, List, [], ◌∷◌, ◌++◌, length, take, drop, Some, None, Ok, Err, sym, refl, ap, ◌∙◌, arith, length-drop, length-take}
-use Rattle.std.proofs.lemmas.List.{length-take-le, take_rest}
+use Rattle.std.proofs.lemmas.List.{take_rest}
 use Rattle.std.proofs.lemmas.Bool.{cond-true, cond-false, and_parts, and_from, ltb-true}
 use Rattle.flow.specs.declared.fault.RouteFault.{RouteFault}
 use Rattle.flow.specs.declared.fault.RouteFault.TheVariants.{Shape, Ends}
@@ -77,10 +77,6 @@ more-end zero sofar bytes e = cond-true (eqb (length bytes) 0) _ _ e
 more-end (suc left) sofar bytes e = cond-true (eqb (length bytes) 0) _ _ e
 
 module _ (sofar : List (List ℕ)) (bytes : List ℕ) (some : eqb (length bytes) 0 ≡ false) where
-  -- bytes that are left where no route may follow are a fault
-  pub more_full : read_more 0 sofar bytes ≡ Err (Shape (length sofar + 1))
-  more_full = cond-false (eqb (length bytes) 0) _ _ some
-
   -- one more route is read, and the others behind it
   pub more_step : (left m : ℕ) (ds : List ℕ) → left ≡ suc m → read_next sofar bytes ≡ Ok ds →
       read_more left sofar bytes ≡ read_more m (sofar ++ ds ∷ []) (behind bytes)
@@ -94,37 +90,35 @@ module _ (sofar : List (List ℕ)) (bytes : List ℕ) (some : eqb (length bytes)
       ap (λ n. read_more n sofar bytes) is ∙ cond-false (eqb (length bytes) 0) _ _ some
       ∙ ap (λ r. and_then r (λ xs. read_more m (sofar ++ xs ∷ []) (behind bytes))) next
 
--- a route has as many devices as it counts
-pub devices-count : (r : Route) → length (devices_in r) ≡ r.count
-devices-count r = length-take-le r.count r.devices (omega (arith, r.most, r.places))
+-- the bytes behind as many places, as the code cuts them
+abbrev pub after : List ℕ → List ℕ → List ℕ
+after ds bytes = take (length bytes - (length ds + 1)) (drop (length ds + 1) bytes)
 
--- the bytes behind a route, as the code cuts them
-abbrev pub after : Route → List ℕ → List ℕ
-after r bytes = take (length bytes - (r.count + 1)) (drop (r.count + 1) bytes)
-
--- so cut, they are what the rules call the bytes behind it
-behind_is : (r : Route) (bytes : List ℕ) → behind bytes ≡ drop (length (devices_in r) + 1) bytes → after r bytes ≡ behind bytes
-behind_is r bytes e = take_rest bytes (r.count + 1) ∙ ap (λ n. drop (n + 1) bytes) (sym (devices-count r)) ∙ sym e
+-- so cut, they are what the rules call the bytes behind a route
+behind_is : (ds bytes : List ℕ) → behind bytes ≡ drop (length ds + 1) bytes → after ds bytes ≡ behind bytes
+behind_is ds bytes e = take_rest bytes (length ds + 1) ∙ sym e
 
 -- behind the first route the loop has the whole still to come
-pub begins : (bytes : List ℕ) (first : Route) (rs : Routes) →
+pub begins : (bytes cut : List ℕ) (first : Route) (rs : Routes) → cut ≡ devices_in first →
     Ok (devices_in first) ≡ read_route_of 1 bytes → rs.count ≡ 1 → routes_in rs ≡ devices_in first ∷ [] →
-    read_more (3 - rs.count) (routes_in rs) (after first bytes) ≡ read_routes_of bytes
-begins bytes first rs reads counts is =
+    read_more (3 - rs.count) (routes_in rs) (after cut bytes) ≡ read_routes_of bytes
+begins bytes cut first rs cuts reads counts is =
     let w = route-within 1 bytes (devices_in first) (sym reads) in
-    ap (λ n. read_more (3 - n) (routes_in rs) (after first bytes)) counts
-    ∙ ap (λ l. read_more 2 l (after first bytes)) is
-    ∙ ap (read_more 2 (devices_in first ∷ [])) (behind_is first bytes w.1)
+    ap (λ n. read_more (3 - n) (routes_in rs) (after cut bytes)) counts
+    ∙ ap (λ l. read_more 2 l (after cut bytes)) is
+    ∙ ap (λ l. read_more 2 (devices_in first ∷ []) (after l bytes)) cuts
+    ∙ ap (read_more 2 (devices_in first ∷ [])) (behind_is (devices_in first) bytes w.1)
     ∙ ap (λ r. and_then (and_then r (λ ds. unless (ends_after 1 [] ds) (Ok ds))) (λ ds. read_more 2 (ds ∷ []) (behind bytes))) reads
 
 -- and so it has behind each further one
-pub goes_on : (rest : List ℕ) (next : Route) (rs rs' : Routes) →
+pub goes_on : (rest cut : List ℕ) (next : Route) (rs rs' : Routes) → cut ≡ devices_in next →
     eqb (length rest) 0 ≡ false → rs.count < 3 → Ok (devices_in next) ≡ read_next (routes_in rs) rest →
     rs'.count ≡ rs.count + 1 → routes_in rs' ≡ routes_in rs ++ devices_in next ∷ [] →
-    read_more (3 - rs'.count) (routes_in rs') (after next rest) ≡ read_more (3 - rs.count) (routes_in rs) rest
-goes_on rest next rs rs' some room reads counts is =
+    read_more (3 - rs'.count) (routes_in rs') (after cut rest) ≡ read_more (3 - rs.count) (routes_in rs) rest
+goes_on rest cut next rs rs' cuts some room reads counts is =
     let w = next-within (routes_in rs) rest (devices_in next) (sym reads) in
-    ap (λ n. read_more (3 - n) (routes_in rs') (after next rest)) counts
-    ∙ ap (λ l. read_more (3 - (rs.count + 1)) l (after next rest)) is
-    ∙ ap (read_more (3 - (rs.count + 1)) (routes_in rs ++ devices_in next ∷ [])) (behind_is next rest w.1)
+    ap (λ n. read_more (3 - n) (routes_in rs') (after cut rest)) counts
+    ∙ ap (λ l. read_more (3 - (rs.count + 1)) l (after cut rest)) is
+    ∙ ap (λ l. read_more (3 - (rs.count + 1)) (routes_in rs ++ devices_in next ∷ []) (after l rest)) cuts
+    ∙ ap (read_more (3 - (rs.count + 1)) (routes_in rs ++ devices_in next ∷ [])) (behind_is (devices_in next) rest w.1)
     ∙ sym (more_step (routes_in rs) rest some (3 - rs.count) (3 - (rs.count + 1)) (devices_in next) (omega arith) (sym reads))

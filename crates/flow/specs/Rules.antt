@@ -1,18 +1,15 @@
 -- The rules of one route: a list of devices, the gateway being device 0.
-use Rattle.std.specs.Prelude.{ℕ, ◌-◌, Bool, true, not, ◌&&◌, List, [], ◌∷◌, length, is_some, Option, ◌==◌, nat_eq, nat_lt, slice_index}
+use Rattle.std.specs.Prelude.{ℕ, ◌-◌, Bool, true, not, ◌&&◌, List, [], ◌∷◌, length, take, position, is_some, Option, ◌==◌, nat_lt, slice_index}
+use Rattle.std.specs.List.{list_any}
 use Rattle.flow.specs.First.{first}
 
--- the device at index i is above 100
-abbrev pub unknown : List ℕ → ℕ → Bool
-unknown ds i = nat_lt 100 (slice_index ds i)
-
--- the first such index
+-- the index of the first device above 100
 abbrev pub first_unknown_of : List ℕ → Option ℕ
-first_unknown_of ds = first (unknown ds) (length ds)
+first_unknown_of ds = position (λ d. nat_lt 100 d) ds
 
 -- the device at index i stands earlier in the route
 abbrev pub repeats : List ℕ → ℕ → Bool
-repeats ds i = is_some (first (λ j. nat_eq (slice_index ds j) (slice_index ds i)) i)
+repeats ds i = list_any (λ d. d == slice_index ds i) (take i ds)
 
 -- the first such index
 abbrev pub first_repeat_of : List ℕ → Option ℕ
@@ -20,7 +17,7 @@ first_repeat_of ds = first (repeats ds) (length ds)
 
 -- the gateway is among the devices
 abbrev pub has_gateway_in : List ℕ → Bool
-has_gateway_in ds = is_some (first (λ i. nat_eq (slice_index ds i) 0) (length ds))
+has_gateway_in ds = list_any (λ d. d == 0) ds
 
 -- different devices from 0 to 100, the gateway among them
 abbrev pub lawful : List ℕ → Bool

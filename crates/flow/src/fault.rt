@@ -1,5 +1,5 @@
 // The first rule that the bytes of a flow's routes break, and where. Routes and positions count from 1.
-#[derive(Clone, Copy)]
+#[derive(Clone, Copy, Debug, PartialEq, Eq)]
 pub enum RouteFault {
     // no route, a fourth route, a device count outside 2 to 9, or bytes that end inside the route
     Shape { route: u8 },

@@ -1,4 +1,4 @@
-ghost use Rattle.std.specs.Prelude.{◌≡◌, ◌+◌, ◌<◌, true, [], ◌∷◌, ◌++◌, length, Ok};
+ghost use Rattle.std.specs.Prelude.{◌≡◌, ◌+◌, ◌<◌, ◌≤◌, true, [], ◌∷◌, ◌++◌, length, Ok};
 ghost use Rattle.flow.specs.Outcomes.{unless, given};
 ghost use Rattle.flow.specs.Reading.{ends_fault, read_next, read_routes_of};
 ghost use Rattle.flow.specs.Rules.{all_agree};
@@ -14,9 +14,10 @@ impl Route {
     // The devices, in order.
     pub fn as_slice(&self) -> &[u8]
         ensures value { result.now ≡ devices_in self.now }
-        ensures len { length result.now ≡ self.now.count }
+        ensures least { 2 ≤ length result.now }
+        ensures most { length result.now ≤ 9 }
     {
-        &self.devices[0..self.count as usize]
+        self.devices.as_slice()
     }
 
     // Whether a route has this one's ends; it is the flow's route of that number.
@@ -25,13 +26,13 @@ impl Route {
     {
         let one = self.as_slice();
         let devices = other.as_slice();
-        if one[0] != devices[0] {
+        if one.first() != devices.first() {
             return Err(RouteFault::Ends { route, position: 1 });
         }
-        if one[one.len() - 1] != devices[devices.len() - 1] {
+        if one.last() != devices.last() {
             return Err(RouteFault::Ends {
                 route,
-                position: other.count,
+                position: devices.len() as u8,
             });
         }
         Ok(())
@@ -89,13 +90,14 @@ impl Routes {
     {
         let first = Route::read(bytes, 1)?;
         let mut routes = Routes::one(first);
-        let mut rest = &bytes[first.count as usize + 1..];
+        let mut rest = &bytes[first.as_slice().len() + 1..];
+        // no chunks: each route takes as many bytes as its own first byte says
         while !rest.is_empty() {
             if routes.count == 3 {
                 return Err(RouteFault::Shape { route: 4 });
             }
             let route = routes.next(rest)?;
-            rest = &rest[route.count as usize + 1..];
+            rest = &rest[route.as_slice().len() + 1..];
             routes = routes.with(route);
         }
         Ok(routes)

@@ -1,14 +1,14 @@
-ghost use Rattle.std.specs.Prelude.{◌≡◌, ◌≤◌, true, length, take};
+ghost use Rattle.std.specs.Prelude.{◌≡◌, ◌≤◌, true, length};
+ghost use Rattle.byte_list.specs.Bytes.{bytes_in};
 ghost use Rattle.flow.specs.Rules.{lawful};
 
+use byte_list::ByteList;
+
 // A route: 2 to 9 different devices from 0 to 100, the gateway (device 0) among them.
-// Places of `devices` past `count` mean nothing.
 #[derive(Clone, Copy)]
 pub struct Route {
-    pub devices: [u8; 9],
-    pub count: u8,
-    ghost places: { length devices ≡ 9 },
-    ghost least: { 2 ≤ count },
-    ghost most: { count ≤ 9 },
-    ghost ok: { lawful (take count devices) ≡ true },
+    pub devices: ByteList<9>,
+    ghost least: { 2 ≤ length (bytes_in devices) },
+    ghost most: { length (bytes_in devices) ≤ 9 },
+    ghost ok: { lawful (bytes_in devices) ≡ true },
 }

@@ -12,12 +12,7 @@ pub(crate) fn first_unknown(devices: &[u8]) -> Option<usize>
     ensures value { result ≡ first_unknown_of devices.now }
     ensures below { IfSome result (λ i. i < length devices.now) }
 {
-    for (i, device) in devices.iter().enumerate() {
-        if *device > LARGEST {
-            return Some(i);
-        }
-    }
-    None
+    devices.iter().position(|device| *device > LARGEST)
 }
 
 // The index of the first device that stands earlier in the route.
@@ -25,6 +20,7 @@ pub(crate) fn first_repeat(devices: &[u8]) -> Option<usize>
     ensures value { result ≡ first_repeat_of devices.now }
     ensures below { IfSome result (λ i. i < length devices.now) }
 {
+    // nested loops that a label leaves: the form that the rules name for this search
     let mut found = None;
     'search: for later in 0..devices.len() {
         for earlier in 0..later {
@@ -41,10 +37,5 @@ pub(crate) fn first_repeat(devices: &[u8]) -> Option<usize>
 pub(crate) fn has_gateway(devices: &[u8]) -> bool
     ensures { result ≡ has_gateway_in devices.now }
 {
-    for device in devices {
-        if *device == GATEWAY {
-            return true;
-        }
-    }
-    false
+    devices.contains(&GATEWAY)
 }

@@ -1,9 +1,12 @@
 -- A progress fits the legs exactly where it has a number for each leg, none above the leg's hops.
-use Rattle.std.proofs.Common.{◌≡◌, ℕ, zero, suc, ◌<◌, ◌≤◌, Bool, true, false, leb, List, [], ◌∷◌, length, get_or, refl, arith}
+use Rattle.std.proofs.Common.{◌≡◌, ℕ, zero, suc, ◌<◌, ◌≤◌, Bool, true, false, ◌&&◌, leb, List, [], ◌∷◌, map, length, get_or, sym, refl, ap, ◌∙◌, arith}
 use Rattle.std.proofs.lemmas.Bool.{and_parts, and_from, leb-true, le-leb}
-use Rattle.frame.specs.Legs.{LegSpec}
+use Rattle.std.specs.List.{list_all, zip}
+use Rattle.frame.specs.declared.leg.Leg.{Leg}
+use Rattle.frame.specs.Legs.{LegSpec, leg_spec}
 use Rattle.frame.specs.Frames.{no_leg}
 use Rattle.frame.specs.States.{fits}
+use Rattle.frame.proofs.Reading.{leg-size}
 
 -- a number for each leg, none above the leg's hops
 pub record Fitting (ls : List LegSpec) (p : List ℕ) : Type 0 where
@@ -41,3 +44,12 @@ fits_not ls p no' = go (fits ls p) refl
     go : (b : Bool) → fits ls p ≡ b → b ≡ false
     go true e = absurd (no' (fitting ls p e))
     go false e = refl
+
+-- one comparison for each leg and its number
+pub fits-zip : (ls : List Leg) (p : List ℕ) → length ls ≡ length p → list_all (λ x. leb x.1 x.0.count) (zip ls p) ≡ fits (map leg_spec ls) p
+fits-zip [] [] e = refl
+fits-zip [] (n ∷ ns) e = absurd (omega arith)
+fits-zip (l ∷ ls) [] e = absurd (omega arith)
+fits-zip (l ∷ ls) (n ∷ ns) e =
+    ap (λ m. leb n m && list_all (λ x. leb x.1 x.0.count) (zip ls ns)) (sym (leg-size l))
+    ∙ ap (λ b. leb n (length (leg_spec l).hops) && b) (fits-zip ls ns (omega arith))

@@ -5,4 +5,3 @@ pub mod Fits
 pub mod Inserts
 pub mod Filing
 pub mod Shares
-pub mod Undone

@@ -1,5 +1,6 @@
 -- Frames as the rules see them.
-use Rattle.std.specs.Prelude.{ℕ, List, map, length, vec_items, slice_index_or}
+use Rattle.std.specs.Prelude.{ℕ, List, map, length, slice_index_or}
+use Rattle.reserved.specs.Held.{held}
 use Rattle.frame.specs.declared.hop.Hop.{Hop}
 use Rattle.frame.specs.declared.frame.Frame.{Frame}
 use Rattle.frame.specs.Legs.{LegSpec, leg_spec}
@@ -13,7 +14,7 @@ pub record FrameSpec : Type 0 where
 
 -- what the rules see of a frame
 abbrev pub frame_spec : Frame → FrameSpec
-frame_spec f = record { legs = map leg_spec (vec_items f.legs); slots = f.slots; channels = f.channels }
+frame_spec f = record { legs = map leg_spec (held f.memory.legs); slots = f.slots; channels = f.channels }
 
 -- the number of legs
 abbrev pub leg_count : FrameSpec → ℕ

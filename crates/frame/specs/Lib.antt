@@ -3,6 +3,7 @@ pub mod Legs
 pub mod Frames
 pub mod States
 pub mod Reads
+pub mod Sorts
 pub mod Sets
 pub mod Quick
 pub mod Visits

@@ -1,24 +1,11 @@
 -- The sets of hops that may be sent in one slot, in the order in which they are tried. A set is a list of legs, each of
 -- which sends its next hop.
-use Rattle.std.specs.Prelude.{ℕ, ◌+◌, Bool, true, cond, not, ◌&&◌, ◌||◌, List, [], ◌∷◌, ◌++◌, map, length, set, ℤ, filter, ◌==◌, int_le, nat_le}
+use Rattle.std.specs.Prelude.{ℕ, ◌+◌, Bool, true, not, ◌&&◌, ◌||◌, List, [], ◌∷◌, ◌++◌, map, length, set, filter, ◌==◌, nat_le}
 use Rattle.std.specs.List.{range_with_len}
 use Rattle.frame.specs.declared.hop.Hop.{Hop}
 use Rattle.frame.specs.Frames.{FrameSpec, leg_count, hop_at}
 use Rattle.frame.specs.States.{done_of, released}
-
--- x at its place: before the first that it may stand before
-abbrev pub insert_by : (ℕ → ℕ → Bool) → ℕ → List ℕ → List ℕ
-insert_by before x [] = x ∷ []
-insert_by before x (y ∷ ys) = cond (before x y) (x ∷ y ∷ ys) (y ∷ insert_by before x ys)
-
--- sorted; of two that may each stand before the other, the earlier one stays first
-abbrev pub sort_by : (ℕ → ℕ → Bool) → List ℕ → List ℕ
-sort_by before [] = []
-sort_by before (x ∷ xs) = insert_by before x (sort_by before xs)
-
--- the lower key first
-abbrev pub by_key : (ℕ → ℤ) → ℕ → ℕ → Bool
-by_key key i j = int_le (key i) (key j)
+pub use Rattle.frame.specs.Sorts.{insert_by, sort_by, by_key}
 
 -- the legs whose next hop is released, in leg order
 abbrev pub released_legs : FrameSpec → ℕ → List ℕ → List ℕ

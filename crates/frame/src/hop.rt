@@ -1,5 +1,5 @@
 // A transmission from one device to the next. It is at both.
-#[derive(Clone, Copy)]
+#[derive(Clone, Copy, Debug, PartialEq, Eq)]
 pub struct Hop {
     pub sender: u8,
     pub receiver: u8,

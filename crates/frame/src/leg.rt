@@ -4,6 +4,7 @@ use crate::hop::Hop;
 
 // A leg: one packet of a flow on one route. From slot `release` on, and not after slot `due`, it crosses its hops in
 // order. Places of `hops` past `count` mean nothing.
+// An array with a count, and no `Vec`: a leg is `Copy` and allocates nothing.
 #[derive(Clone, Copy)]
 pub struct Leg {
     pub flow: u16,

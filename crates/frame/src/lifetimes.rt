@@ -3,10 +3,9 @@ ghost use Rattle.frame.specs.Frames.{frame_spec};
 ghost use Rattle.frame.specs.Legs.{leg_spec};
 ghost use Rattle.frame.specs.Reads.{leg_lifetime, lifetime_of};
 
-use crate::frame::Frame;
 use crate::leg::Leg;
 use crate::lifetime::Lifetime;
-use crate::states::done;
+use crate::moment::Moment;
 
 impl Leg {
     // The lifetime of a hop that is undone.
@@ -26,20 +25,16 @@ impl Leg {
     }
 }
 
-impl Frame {
+impl Moment<'_> {
     // The lifetime of a hop of a leg, where it is an undone hop of a state.
-    pub fn lifetime(&self, slot: u16, progress: &[u8], leg: usize, hop: usize) -> Option<Lifetime>
-        ensures { result ≡ lifetime_of (frame_spec self.now) slot progress.now leg hop }
+    pub fn lifetime(self, leg: usize, hop: usize) -> Option<Lifetime>
+        ensures { result ≡ lifetime_of (frame_spec self.entry.frame.now) self.entry.slot self.entry.progress.now leg hop }
     {
-        let legs = self.legs();
-        if !self.is_state(slot, progress) || leg >= legs.len() {
+        let found = self.frame.legs().get(leg)?;
+        let done = self.done(leg) as usize;
+        if !self.is_state() || hop < done || hop >= found.count as usize {
             return None;
         }
-        let done = done(progress, leg) as usize;
-        let found = &legs[leg];
-        if hop < done || hop >= found.count as usize {
-            return None;
-        }
-        Some(found.lifetime(slot, done, hop))
+        Some(found.lifetime(self.slot, done, hop))
     }
 }

@@ -1,52 +1,45 @@
-ghost use Rattle.std.specs.Prelude.{◌≡◌, ◌≤◌, true, [], map, IfOk, vec_len};
+ghost use Rattle.std.specs.Prelude.{◌≡◌, ◌≤◌, true, [], map, IfOk};
+ghost use Rattle.reserved.specs.Held.{held};
 ghost use Rattle.frame.specs.Legs.{leg_spec, all_due_by, hop_total};
 ghost use Rattle.frame.specs.Frames.{frame_spec};
 
 use crate::frame::Frame;
 use crate::memory::FrameMemory;
 use crate::tables::fill_tables;
+use reserved::Reserved;
 use std::alloc::{AllocError, Global};
 
 impl FrameMemory {
     // Reserves the memory of one frame.
     pub fn new(heap: Global) -> Result<FrameMemory, AllocError>
-        ensures { IfOk result (λ m. (m.legs.items ≡ []) × (vec_len m.legs ≡ 0)) }
+        ensures { IfOk result (λ m. held m.legs ≡ []) }
     {
-        let legs = Vec::with_capacity(heap, 2048)?;
-        let visits = Vec::with_capacity(heap, 4096)?;
-        let starts = Vec::with_capacity(heap, 257)?;
         Ok(FrameMemory {
-            legs,
-            visits,
-            starts,
+            legs: Reserved::new(heap)?,
+            visits: Reserved::new(heap)?,
+            starts: Reserved::new(heap)?,
         })
     }
 }
 
 impl Frame {
     // The frame of the legs, in the memory that holds them.
-    pub fn build(memory: FrameMemory, slots: u16, channels: u8) -> Frame
-        requires few { vec_len memory.legs ≤ 2048 }
+    pub fn build(mut memory: FrameMemory, slots: u16, channels: u8) -> Frame
         requires slots { (1 ≤ slots) × (slots ≤ 1024) }
         requires channels { (1 ≤ channels) × (channels ≤ 15) }
-        requires timely { all_due_by slots (map leg_spec memory.legs.items) ≡ true }
-        requires light { hop_total (map leg_spec memory.legs.items) ≤ 2048 }
-        ensures legs { (frame_spec result).legs ≡ map leg_spec memory.legs.items }
+        requires timely { all_due_by slots (map leg_spec (held memory.legs)) ≡ true }
+        requires light { hop_total (map leg_spec (held memory.legs)) ≤ 2048 }
+        ensures legs { (frame_spec result).legs ≡ map leg_spec (held memory.legs) }
         ensures slots { (frame_spec result).slots ≡ slots }
         ensures channels { (frame_spec result).channels ≡ channels }
     {
-        let FrameMemory {
-            legs,
-            mut visits,
-            mut starts,
-        } = memory;
-        visits.clear();
-        starts.clear();
-        fill_tables(&mut visits, &mut starts, legs.as_slice());
+        fill_tables(
+            &mut memory.visits,
+            &mut memory.starts,
+            memory.legs.as_slice(),
+        );
         Frame {
-            legs,
-            visits,
-            starts,
+            memory,
             slots,
             channels,
         }
@@ -54,19 +47,13 @@ impl Frame {
 
     // Ends the frame and hands out its memory.
     pub fn into_memory(self) -> FrameMemory
-        ensures legs { result.legs ≡ self.legs }
+        ensures { result ≡ self.memory }
     {
         let Frame {
-            legs,
-            visits,
-            starts,
+            memory,
             slots: _,
             channels: _,
         } = self;
-        FrameMemory {
-            legs,
-            visits,
-            starts,
-        }
+        memory
     }
 }

@@ -1,6 +1,6 @@
 // A cell of the grid: in this slot, at this channel offset, `sender` sends hop `hop` of a route of a flow to `receiver`.
 // Routes and hops count from 1, offsets from 0.
-#[derive(Clone, Copy)]
+#[derive(Clone, Copy, Debug, PartialEq, Eq)]
 pub struct Placement {
     pub slot: u16,
     pub offset: u8,

@@ -1,4 +1,5 @@
 ghost use Rattle.std.specs.Prelude.{◌≡◌, ◌≤◌, map, length};
+ghost use Rattle.reserved.specs.Held.{held};
 ghost use Rattle.frame.specs.Legs.{leg_spec, hop_total};
 ghost use Rattle.frame.specs.Frames.{frame_spec, leg_count};
 ghost use Rattle.frame.specs.Visits.{visits_at, visits_below};
@@ -10,12 +11,12 @@ use crate::visit::Visit;
 impl Frame {
     // The legs, in rising order of flow number, packet and route.
     pub fn legs(&self) -> &[Leg]
-        ensures value { result.now ≡ self.now.legs.items }
+        ensures value { result.now ≡ held self.now.memory.legs }
         ensures seen { map leg_spec result.now ≡ (frame_spec self.now).legs }
         ensures len { length result.now ≡ leg_count (frame_spec self.now) }
         ensures few { length result.now ≤ 2048 }
     {
-        self.legs.as_slice()
+        self.memory.legs.as_slice()
     }
 
     // T, the number of slots.
@@ -41,11 +42,7 @@ impl Frame {
         ensures value { result ≡ hop_total (frame_spec self.now).legs }
         ensures few { result ≤ 2048 }
     {
-        let mut total = 0;
-        for leg in self.legs() {
-            total += leg.count as usize;
-        }
-        total
+        self.legs().iter().map(|leg| leg.count as usize).sum()
     }
 
     // The place in the table of the first hop at a device, or at the next one above that has any.
@@ -53,7 +50,7 @@ impl Frame {
         requires { device ≤ 256 }
         ensures { result ≡ length (visits_below (frame_spec self.now).legs device) }
     {
-        self.starts.as_slice()[device] as usize
+        self.memory.starts.as_slice()[device] as usize
     }
 
     // The hops at a device, by the ends of their lifetimes.
@@ -63,6 +60,6 @@ impl Frame {
     {
         let first = self.start(device as usize);
         let end = self.start(device as usize + 1);
-        &self.visits.as_slice()[first..end]
+        &self.memory.visits.as_slice()[first..end]
     }
 }

@@ -4,19 +4,8 @@ ghost use Rattle.frame.specs.Legs.{leg_spec};
 ghost use Rattle.frame.specs.Reads.{leg_complete, leg_released, leg_late};
 ghost use Rattle.frame.specs.States.{done_of, fits, is_state_at, released, overdue, complete};
 
-use crate::frame::Frame;
 use crate::leg::Leg;
-
-// The number of hops of a leg that are done.
-pub fn done(progress: &[u8], leg: usize) -> u8
-    ensures { result ≡ done_of progress.now leg }
-{
-    if leg < progress.len() {
-        progress[leg]
-    } else {
-        0
-    }
-}
+use crate::moment::Moment;
 
 impl Leg {
     // Whether all hops are done.
@@ -45,62 +34,55 @@ impl Leg {
     }
 }
 
-impl Frame {
-    // Whether the next hop of a leg is released: it is undone, and the leg's release has come.
-    pub fn is_released(&self, slot: u16, progress: &[u8], leg: usize) -> bool
-        ensures { result ≡ released (frame_spec self.now) slot progress.now leg }
+impl Moment<'_> {
+    // The number of hops of a leg that are done.
+    pub fn done(self, leg: usize) -> u8
+        ensures { result ≡ done_of self.entry.progress.now leg }
     {
-        let legs = self.legs();
-        if leg >= legs.len() {
-            return false;
-        }
-        legs[leg].is_released(slot, done(progress, leg))
+        self.progress.get(leg).copied().unwrap_or(0)
+    }
+
+    // Whether the next hop of a leg is released: it is undone, and the leg's release has come.
+    pub fn is_released(self, leg: usize) -> bool
+        ensures { result ≡ released (frame_spec self.entry.frame.now) self.entry.slot self.entry.progress.now leg }
+    {
+        let done = self.done(leg);
+        let found = self.frame.legs().get(leg);
+        found.is_some_and(|found| found.is_released(self.slot, done))
     }
 
     // Whether all hops are done.
-    pub fn is_complete(&self, progress: &[u8]) -> bool
-        ensures { result ≡ complete (frame_spec self.now) progress.now }
+    pub fn is_complete(self) -> bool
+        ensures { result ≡ complete (frame_spec self.entry.frame.now) self.entry.progress.now }
     {
-        for (i, leg) in self.legs().iter().enumerate() {
-            if !leg.is_complete(done(progress, i)) {
-                return false;
-            }
-        }
-        true
+        let mut legs = self.frame.legs().iter().enumerate();
+        legs.all(|(i, leg)| leg.is_complete(self.done(i)))
     }
 
     // Whether some undone hop cannot be in time.
-    pub fn is_overdue(&self, slot: u16, progress: &[u8]) -> bool
-        ensures { result ≡ overdue (frame_spec self.now) slot progress.now }
+    pub fn is_overdue(self) -> bool
+        ensures { result ≡ overdue (frame_spec self.entry.frame.now) self.entry.slot self.entry.progress.now }
     {
-        for (i, leg) in self.legs().iter().enumerate() {
-            if leg.is_late(slot, done(progress, i)) {
-                return true;
-            }
-        }
-        false
+        let mut legs = self.frame.legs().iter().enumerate();
+        legs.any(|(i, leg)| leg.is_late(self.slot, self.done(i)))
     }
 
-    // Whether a progress has a number for each leg, none above the leg's hops.
-    fn fits(&self, progress: &[u8]) -> bool
-        ensures { result ≡ fits (frame_spec self.now).legs progress.now }
+    // Whether its progress has a number for each leg, none above the leg's hops.
+    fn fits(self) -> bool
+        ensures { result ≡ fits (frame_spec self.entry.frame.now).legs self.entry.progress.now }
     {
-        let legs = self.legs();
-        if progress.len() != legs.len() {
-            return false;
-        }
-        for (i, leg) in legs.iter().enumerate() {
-            if progress[i] > leg.count {
-                return false;
-            }
-        }
-        true
+        let legs = self.frame.legs();
+        legs.len() == self.progress.len()
+            && legs
+                .iter()
+                .zip(self.progress)
+                .all(|(leg, done)| *done <= leg.count)
     }
 
-    // Whether a slot and a progress are a state: a slot of the frame or one past it, and a progress that fits.
-    pub fn is_state(&self, slot: u16, progress: &[u8]) -> bool
-        ensures { result ≡ is_state_at (frame_spec self.now) slot progress.now }
+    // Whether it is a state: a slot of the frame or one past it, and a progress that fits.
+    pub fn is_state(self) -> bool
+        ensures { result ≡ is_state_at (frame_spec self.entry.frame.now) self.entry.slot self.entry.progress.now }
     {
-        slot >= 1 && slot <= self.slots + 1 && self.fits(progress)
+        self.slot >= 1 && self.slot <= self.frame.slots + 1 && self.fits()
     }
 }

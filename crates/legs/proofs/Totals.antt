@@ -1,21 +1,21 @@
 -- The legs of flows: how many there are, how many hops they have, and when they are due.
-use Rattle.std.proofs.Common.{◌≡◌, ℕ, zero, suc, ◌+◌, ◌-◌, ◌*◌, ◌/◌, ◌<◌, ◌≤◌, true, leb, List, [], ◌∷◌, ◌++◌, map, length, take, vec_items, sym, refl, ap, ◌∙◌, le_trans, add-mul, mul-le-mul_left, one-mul, zero-mul, mul-one, mul-add, arith, length-append}
+use Rattle.std.proofs.Common.{◌≡◌, ℕ, zero, suc, ◌+◌, ◌-◌, ◌*◌, ◌/◌, ◌<◌, ◌≤◌, true, leb, List, [], ◌∷◌, ◌++◌, map, length, take, sym, refl, ap, ◌∙◌, le_trans, add-mul, mul-le-mul_left, one-mul, zero-mul, mul-one, mul-add, arith, length-append}
 use native.Mathlib.Nat.{mul-div-le}
 use Rattle.std.specs.List.{range_with_len, flat_map}
 use Rattle.std.proofs.lemmas.List.Sums.{sum_by-append, sum_by-cons}
 use Rattle.std.proofs.lemmas.Bool.{and_from, and_parts, le-leb}
+use Rattle.reserved.specs.Held.{held}
 use Rattle.flow.specs.declared.route.Route.{Route}
 use Rattle.flow.specs.declared.traffic.Flow.{Flow}
 use Rattle.flow.specs.Flows.{FlowSpec, flow_spec, hops_of}
 use Rattle.flow.specs.Views.{devices_in}
-use Rattle.flow.proofs.Many.{devices-count}
 use Rattle.table.specs.declared.table.FlowTable.{FlowTable}
 use Rattle.table.specs.Frame.{frame, transmissions_in}
 use Rattle.table.specs.Tables.{flows_in}
 use Rattle.table.proofs.Frames.{share}
 use Rattle.frame.specs.Legs.{LegSpec, all_due_by, hop_total}
 use Rattle.legs.specs.Expand.{hops_along_route, leg_of_packet, legs_from, packet_legs, flow_legs, legs_of}
-use Rattle.legs.proofs.Walks.{legs-length}
+use Rattle.legs.proofs.Walks.{legs_length}
 
 -- the hops of one leg
 abbrev leg_hops : LegSpec → ℕ
@@ -66,7 +66,7 @@ legs-total t (f ∷ fs) =
 routes-few : (rs : List Route) → length (map devices_in rs) ≤ hops_of (map devices_in rs)
 routes-few [] = omega arith
 routes-few (r ∷ rs) =
-    omega (arith, sum_by-cons (λ ds. length ds - 1) (devices_in r) (map devices_in rs), routes-few rs, devices-count r, r.least)
+    omega (arith, sum_by-cons (λ ds. length ds - 1) (devices_in r) (map devices_in rs), routes-few rs, r.least)
 
 -- so packets have at least as many hops as legs
 packets_few : (f : Flow) (a n : ℕ) → (
@@ -81,7 +81,7 @@ packets_few f a (suc n) =
       length-append (g a) rest,
       sum_by-append leg_hops (g a) rest,
       packets_few f (a + 1) n,
-      legs-length (flow_spec f) a 1 (flow_spec f).routes,
+      legs_length (flow_spec f) a 1 (flow_spec f).routes,
       packet_total (flow_spec f) a 1 (flow_spec f).routes,
       routes-few (take f.routes.count f.routes.list),
     )
@@ -141,14 +141,13 @@ legs-due t (f ∷ fs) =
     due-append t (flow_legs t (flow_spec f)) (legs_of t (map flow_spec fs))
     (packets_due t (flow_spec f) 0 (t / f.period) f.prompt (omega arith)) (legs-due t fs)
 
--- the legs of a table's flows in their frame: at most 2,048, due within it, with at most 2,048 hops
+-- the legs of a table's flows in their frame: due within it, with at most 2,048 hops
 pub table_legs : (table : FlowTable) (t : ℕ) (legs : List LegSpec) →
     t ≡ frame (flows_in table) → legs ≡ legs_of (frame (flows_in table)) (flows_in table) →
-    (length legs ≤ 2048) × (all_due_by t legs ≡ true) × (hop_total legs ≤ 2048)
+    (all_due_by t legs ≡ true) × (hop_total legs ≤ 2048)
 table_legs table t legs slots is =
     let fs = flows_in table in
-    let own = vec_items table.flows in (
-      omega (arith, ap length is, legs-few (frame fs) own, table.light),
+    let own = held table.flows in (
       ap (λ n. all_due_by n legs) slots ∙ ap (all_due_by (frame fs)) is ∙ legs-due (frame fs) own,
       omega (arith, ap hop_total is, legs-total (frame fs) fs, table.light),
     )

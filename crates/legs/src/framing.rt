@@ -8,20 +8,10 @@ use frame::{Frame, FrameMemory};
 use table::FlowTable;
 
 // The frame of a table's flows over so many channels, in memory that is there. It allocates nothing.
-pub fn frame_of(table: &FlowTable, channels: u8, memory: FrameMemory) -> Frame
+pub fn frame_of(table: &FlowTable, channels: u8, mut memory: FrameMemory) -> Frame
     requires { (1 ≤ channels) × (channels ≤ 15) }
     ensures { frame_spec result ≡ frame_with_channels (flows_in table.now) channels }
 {
-    let FrameMemory {
-        mut legs,
-        visits,
-        starts,
-    } = memory;
-    expand(table, &mut legs);
-    let memory = FrameMemory {
-        legs,
-        visits,
-        starts,
-    };
+    expand(table, &mut memory.legs);
     Frame::build(memory, table.frame() as u16, channels)
 }

@@ -6,8 +6,9 @@ use flow::Route;
 use frame::Hop;
 
 // The hops of a route, from each device to the next. Places past them mean nothing.
+#[tactic(auto, using(std::proofs::lemmas::Grind::common_steps, crate::proofs::Walks::hops_of_two, crate::proofs::Walks::hops_of_one))]
 pub(crate) fn hops_along(route: &Route) -> [Hop; 8]
-    ensures value { take (route.now.count - 1) result ≡ hops_along_route (devices_in route.now) }
+    ensures value { take (length (devices_in route.now) - 1) result ≡ hops_along_route (devices_in route.now) }
     ensures len { length result ≡ 8 }
 {
     let none = Hop {
@@ -15,11 +16,8 @@ pub(crate) fn hops_along(route: &Route) -> [Hop; 8]
         receiver: 0,
     };
     let mut hops = [none; 8];
-    for i in 0..route.count as usize - 1 {
-        hops[i] = Hop {
-            sender: route.devices[i],
-            receiver: route.devices[i + 1],
-        };
+    for (i, &[sender, receiver]) in route.as_slice().array_windows::<2>().enumerate() {
+        hops[i] = Hop { sender, receiver };
     }
     hops
 }

@@ -20,6 +20,6 @@ pub(crate) fn leg_of(flow: &Flow, packet: u16, number: u8, route: &Route) -> Leg
         release,
         due: release + flow.deadline - 1,
         hops: hops_along(route),
-        count: route.count - 1,
+        count: route.as_slice().len() as u8 - 1,
     }
 }

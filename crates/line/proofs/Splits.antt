@@ -1,89 +1,121 @@
 -- Where the first separator stands, the first piece ends.
-use Rattle.std.proofs.Common.{◌≡◌, ℕ, zero, suc, ◌+◌, ◌-◌, ◌<◌, ◌≤◌, Bool, true, false, cond, not, eqb, List, [], ◌∷◌, length, get_or, take, drop, refl, ap, ◌∙◌, add-one, arith}
-use Rattle.std.proofs.lemmas.List.{at_drop_more, take_rest, length-take-le, length-drop}
-use Rattle.std.proofs.lemmas.Bool.{cond-true, cond-false, cond_both, lt-ltb, eq-eqb, ne_eqb, both_ways}
-use Rattle.line.specs.Grammar.{split_at, in_front, is_empty}
-use Rattle.line.specs.Left.{cut_at}
-
--- none of the first n bytes is a separator
-abbrev pub Clear : ℕ → List ℕ → ℕ → Type 0
-Clear s xs n = (k : ℕ) → k < n → eqb (get_or xs k 0) s ≡ false
-
--- what is clear is clear without its first byte
-clear_tail : (s x : ℕ) (xs : List ℕ) (n : ℕ) → Clear s (x ∷ xs) (suc n) → Clear s xs n
-clear_tail s x xs n clear k h = clear (suc k) (omega arith)
+use Rattle.std.proofs.Common.{◌≡◌, ℕ, ◌+◌, ◌-◌, ◌<◌, ◌≤◌, Bool, false, not, eqb, List, [], ◌∷◌, length, take, drop, Option, Some, None, refl, sym, ap, ◌∙◌, ⊎_elim, arith}
+use Rattle.std.specs.List.{position, position_or_len, onto_first}
+use Rattle.std.specs.Option.{is_some, option_map_or}
+use Rattle.std.specs.Borrow.{Bor}
+use Rattle.std.proofs.lemmas.List.{take_rest}
+use Rattle.std.proofs.lemmas.List.Elements.{All-from_get_or}
+use Rattle.std.proofs.lemmas.List.Sums.{fails_before_first, sum_by-cons}
+use Rattle.std.proofs.lemmas.List.Splits.{slice_split_first, slice_split_none, length-slice_split}
+use Rattle.std.proofs.lemmas.Bool.{cases_lt, cond-true, cond-false, cond_both, lt-ltb, le-ltb}
+use Rattle.line.specs.Grammar.{split_at, is_empty}
+use Rattle.line.specs.declared.pieces.Pieces.{Pieces}
+use Rattle.line.specs.Left.{left, size}
 
 -- the first separator ends the first piece
-hit : (s : ℕ) (xs : List ℕ) (n : ℕ) → n < length xs → Clear s xs n → eqb (get_or xs n 0) s ≡ true →
-    split_at s xs ≡ take n xs ∷ split_at s (drop (suc n) xs)
-hit s [] n in' clear here = absurd (omega arith)
-hit s (x ∷ xs) zero in' clear here = cond-true (eqb x s) ([] ∷ split_at s xs) (in_front x (split_at s xs)) here
-hit s (x ∷ xs) (suc n) in' clear here =
-    cond-false (eqb x s) ([] ∷ split_at s xs) (in_front x (split_at s xs)) (clear 0 (omega arith))
-    ∙ ap (in_front x) (hit s xs n (omega arith) (clear_tail s x xs n clear) here)
-
--- the same with the index that the code has
-pub split_hit : (s : ℕ) (xs : List ℕ) (n : ℕ) → n < length xs → Clear s xs n → eqb (get_or xs n 0) s ≡ true →
-    split_at s xs ≡ take n xs ∷ split_at s (drop (n + 1) xs)
-split_hit s xs n in' clear here = rw add-one (hit s xs n in' clear here)
+pub split_found : (s : ℕ) (xs : List ℕ) (i : ℕ) → position (λ x. eqb x s) xs ≡ Some i →
+    split_at s xs ≡ take i xs ∷ split_at s (drop (i + 1) xs)
+split_found s xs i found =
+    let p : ℕ → Bool = λ x. eqb x s in
+    let n = position_or_len p xs in
+    ⊎_elim
+    (λ (h : n < length xs).
+    let here : Some n ≡ Some i = sym (cond-true _ (Some n) None (lt-ltb n (length xs) h)) ∙ found in
+    let same : n ≡ i = cc in
+    slice_split_first p xs 0 h ∙ ap (λ k. take k xs ∷ split_at s (drop (k + 1) xs)) same)
+    (λ (h : length xs ≤ n).
+    let none : None ≡ Some i = sym (cond-false _ (Some n) None (le-ltb n (length xs) h)) ∙ found in
+    cc)
+    (cases_lt n (length xs))
 
 -- without a separator the text is one piece
-pub split_none : (s : ℕ) (xs : List ℕ) → Clear s xs (length xs) → split_at s xs ≡ xs ∷ []
-split_none s [] clear = refl
-split_none s (x ∷ xs) clear =
-    cond-false (eqb x s) ([] ∷ split_at s xs) (in_front x (split_at s xs)) (clear 0 (omega arith))
-    ∙ ap (in_front x) (split_none s xs (clear_tail s x xs (length xs) clear))
+pub split_none : (s : ℕ) (xs : List ℕ) → position (λ x. eqb x s) xs ≡ None → split_at s xs ≡ xs ∷ []
+split_none s xs none =
+    let p : ℕ → Bool = λ x. eqb x s in
+    let n = position_or_len p xs in
+    ⊎_elim
+    (λ (h : n < length xs).
+    let found : Some n ≡ None = sym (cond-true _ (Some n) None (lt-ltb n (length xs) h)) ∙ none in
+    cc)
+    (λ (h : length xs ≤ n).
+    let clear = All-from_get_or (λ x. p x ≡ false) xs 0 (λ k below. fails_before_first p xs k 0 (omega arith)) in
+    slice_split_none p xs clear)
+    (cases_lt n (length xs))
 
--- the piece up to a separator, and what is left behind it
-pub split_step : (more : Bool) (s : ℕ) (xs : List ℕ) (n : ℕ) → more ≡ true → n < length xs →
-    split_at s xs ≡ cut_at n s xs →
-    (cond more (split_at s xs) [] ≡ take (n - 0) xs ∷ cond more (split_at s (take (length xs - (n + 1)) (drop (n + 1) xs))) [])
-    × (cond more (length xs + 1) 0 ≡ length (take (n - 0) xs) + 1 + cond more (length (take (length xs - (n + 1)) (drop (n + 1) xs)) + 1) 0)
-split_step false s xs n on in' cut = absurd (both_ways false refl on)
-split_step true s xs n on in' cut =
-    let here : n - 0 ≡ n = omega arith in
-    let low : n ≤ length xs = omega arith in (
-      rw (here, take_rest xs (n + 1)) (cut ∙ cond-true _ _ _ (lt-ltb n (length xs) in')),
-      rw (here, take_rest xs (n + 1), length-take-le n xs low, length-drop (n + 1) xs) (omega arith),
-    )
+-- the pieces of a text that may be read already
+abbrev pub left_at : ℕ → Option (Bor (List ℕ)) → List (List ℕ)
+left_at s rest = option_map_or (λ r. split_at s r.now) rest []
 
--- a byte in front of the first piece leaves the number of pieces
-length-in_front : (x : ℕ) (pieces : List (List ℕ)) → 0 < length pieces → length (in_front x pieces) ≡ length pieces
-length-in_front x [] h = absurd (omega arith)
-length-in_front x (p ∷ ps) h = refl
+-- of what is left, the first separator ends the first piece
+pub left_found : (p : Pieces) (rest : Bor (List ℕ)) (i : ℕ) → p.rest ≡ Some rest →
+    position (λ x. eqb x p.separator) rest.now ≡ Some i →
+    left p ≡ take i rest.now ∷ split_at p.separator (take (length rest.now - (i + 1)) (drop (i + 1) rest.now))
+left_found p rest i here found =
+    ap (left_at p.separator) here ∙ split_found p.separator rest.now i found ∙ simp take_rest
+
+-- without a separator it is one piece
+pub left_none : (p : Pieces) (rest : Bor (List ℕ)) → p.rest ≡ Some rest →
+    position (λ x. eqb x p.separator) rest.now ≡ None → left p ≡ rest.now ∷ []
+left_none p rest here none = ap (left_at p.separator) here ∙ split_none p.separator rest.now none
+
+-- what a step of the iterator leaves
+pub ruleset steps = (left_found, left_none)
 
 -- a text has at least one piece
 some_piece : (s : ℕ) (xs : List ℕ) → 0 < length (split_at s xs)
-some_piece s [] = omega arith
-some_piece s (x ∷ xs) =
-    let some = some_piece s xs in
-    let same = length-in_front x (split_at s xs) some in
-    let P : List (List ℕ) → Type 0 = λ ps. 0 < length ps in
-    cond_both (eqb x s) ([] ∷ split_at s xs) (in_front x (split_at s xs)) P (λ _. omega arith) (λ _. omega arith)
-
--- a separator makes one piece more
-pub count_separator : (s : ℕ) (xs : List ℕ) (i : ℕ) → i < length xs → get_or xs i 0 ≡ s →
-    length (split_at s (drop i xs)) ≡ 1 + length (split_at s (drop (i + 1) xs))
-count_separator s xs i h here =
-    at_drop_more (λ ys. length (split_at s ys)) xs i 0 h
-    ∙ ap length (cond-true (eqb (get_or xs i 0) s) _ (in_front (get_or xs i 0) (split_at s (drop (i + 1) xs))) (eq-eqb (get_or xs i 0) s here))
-    ∙ omega arith
-
--- another byte leaves their number
-pub count_other : (s : ℕ) (xs : List ℕ) (i : ℕ) → i < length xs → (get_or xs i 0 ≡ s → ⊥) →
-    length (split_at s (drop i xs)) ≡ length (split_at s (drop (i + 1) xs))
-count_other s xs i h other =
-    let rest = split_at s (drop (i + 1) xs) in
-    at_drop_more (λ ys. length (split_at s ys)) xs i 0 h
-    ∙ ap length (cond-false (eqb (get_or xs i 0) s) ([] ∷ rest) (in_front (get_or xs i 0) rest) (ne_eqb (get_or xs i 0) s other))
-    ∙ length-in_front (get_or xs i 0) rest (some_piece s (drop (i + 1) xs))
+some_piece s xs = omega (arith, length-slice_split (λ x. eqb x s) xs)
 
 -- a list that has an element is not empty
 not-empty : (pieces : List (List ℕ)) → 0 < length pieces → false ≡ is_empty pieces
 not-empty [] h = absurd (omega arith)
 not-empty (p ∷ ps) h = refl
 
--- pieces are left as long as there are more
-pub empty_left : (more : Bool) (s : ℕ) (xs : List ℕ) → not more ≡ is_empty (cond more (split_at s xs) [])
-empty_left true s xs = not-empty (split_at s xs) (some_piece s xs)
-empty_left false s xs = refl
+-- no piece is left where no text is
+pub empty_left : (p : Pieces) → is_empty (left p) ≡ not (is_some p.rest)
+empty_left p = go p.rest
+  where
+    go : (rest : Option (Bor (List ℕ))) → is_empty (left_at p.separator rest) ≡ not (is_some rest)
+    go None = refl
+    go (Some r) = sym (not-empty (split_at p.separator r.now) (some_piece p.separator r.now))
+
+-- one piece more
+size-cons : (piece : List ℕ) (pieces : List (List ℕ)) → size (piece ∷ pieces) ≡ length piece + 1 + size pieces
+size-cons piece pieces = sum_by-cons (λ p. length p + 1) piece pieces
+
+-- what is left when a piece is taken
+pub size_next : {before after : List (List ℕ)} {piece : List ℕ} → before ≡ piece ∷ after →
+    size before ≡ length piece + 1 + size after
+size_next {after = after} {piece = piece} cut = ap size cut ∙ size-cons piece after
+
+-- a byte in front of the first piece
+size-onto_first : (x : ℕ) (pieces : List (List ℕ)) → 0 < length pieces →
+    size (onto_first x pieces) ≡ size pieces + 1
+size-onto_first x [] h = absurd (omega arith)
+size-onto_first x (p ∷ ps) h = omega (arith, size-cons (x ∷ p) ps, size-cons p ps)
+
+-- the pieces of a text have its bytes, and one separator fewer than pieces
+pub size-split_at : (s : ℕ) (xs : List ℕ) → size (split_at s xs) ≡ length xs + 1
+size-split_at s [] = refl
+size-split_at s (x ∷ xs) =
+    let P : List (List ℕ) → Type 0 = λ ps. size ps ≡ length (x ∷ xs) + 1 in
+    let rest = size-split_at s xs in
+    let front = size-onto_first x (split_at s xs) (some_piece s xs) in
+    cond_both
+    (eqb x s)
+    ([] ∷ split_at s xs)
+    (onto_first x (split_at s xs))
+    P
+    (λ _. omega (arith, size-cons [] (split_at s xs)))
+    (λ _. omega arith)
+
+-- how many bytes are left
+pub ruleset sizes = (size_next, size-split_at)
+
+-- each piece counts one at least
+length-size : (pieces : List (List ℕ)) → length pieces ≤ size pieces
+length-size [] = omega arith
+length-size (p ∷ ps) = omega (arith, length-size ps, size-cons p ps)
+
+-- a text has at most one piece more than bytes
+pub most_pieces : (s : ℕ) (xs : List ℕ) → length (split_at s xs) ≤ length xs + 1
+most_pieces s xs = omega (arith, length-size (split_at s xs), size-split_at s xs)

@@ -1,49 +1,36 @@
 -- The grammar of a line: bytes without the newline, read into a call.
-use Rattle.std.specs.Prelude.{ℕ, ◌+◌, ◌-◌, ◌*◌, min, Bool, true, false, cond, not, ◌&&◌, ◌||◌, List, [], ◌∷◌, ◌++◌, length, Some, None, Option, ◌==◌, nat_le, slice_index}
-use Rattle.std.specs.Option.{option_map}
+use Rattle.std.specs.Prelude.{ℕ, ◌+◌, ◌-◌, ◌*◌, min, Bool, true, false, cond, not, ◌&&◌, ◌||◌, List, [], ◌∷◌, ◌++◌, length, Some, None, Option, ◌==◌, nat_le, slice_index, fold}
+use Rattle.std.specs.List.{list_all, slice_split}
+use Rattle.std.specs.Char.{is_ascii_digit}
+use Rattle.std.specs.Bool.{then_some}
+use Rattle.std.specs.Option.{option_map, option_and_then}
 use Rattle.calls.specs.Calls.{Call, admit, retire, set_map, undo, settle}
 
 -- what the second step makes of the first one's answer
 infixr 20 ◌then◌
 abbrev pub ◌then◌ : {A B : Type 0} → Option A → (A → Option B) → Option B
-◌then◌ None f = None
-◌then◌ (Some x) f = f x
-
--- x in front of the first piece
-abbrev pub in_front : ℕ → List (List ℕ) → List (List ℕ)
-in_front x [] = (x ∷ []) ∷ []
-in_front x (piece ∷ pieces) = (x ∷ piece) ∷ pieces
+◌then◌ o f = option_and_then f o
 
 -- the pieces between the separators: n separators give n + 1 pieces
 abbrev pub split_at : ℕ → List ℕ → List (List ℕ)
-split_at separator [] = [] ∷ []
-split_at separator (x ∷ xs) = cond (x == separator) ([] ∷ split_at separator xs) (in_front x (split_at separator xs))
-
--- a byte is one of '0' (48) to '9' (57)
-abbrev pub is_digit : ℕ → Bool
-is_digit x = nat_le 48 x && nat_le x 57
-
--- every byte is a digit
-abbrev pub all_digits : List ℕ → Bool
-all_digits [] = true
-all_digits (x ∷ xs) = is_digit x && all_digits xs
+split_at separator text = slice_split (λ x. x == separator) text
 
 -- the number that the digits continue
 abbrev pub value_from : ℕ → List ℕ → ℕ
-value_from value [] = value
-value_from value (x ∷ xs) = value_from (value * 10 + (x - 48)) xs
+value_from value digits = fold (λ v x. v * 10 + (x - 48)) value digits
 
 -- one to five bytes, and '0' (48) in front only alone
 abbrev pub is_shaped : List ℕ → Bool
-is_shaped field = nat_le 1 (length field) && (nat_le (length field) 5 && (length field == 1 || not (slice_index field 0 == 48)))
+is_shaped field =
+    nat_le 1 (length field) && (nat_le (length field) 5 && (length field == 1 || not (slice_index field 0 == 48)))
 
 -- one to five digits without a leading zero
 abbrev pub is_number : List ℕ → Bool
-is_number field = is_shaped field && all_digits field
+is_number field = is_shaped field && list_all is_ascii_digit field
 
 -- the number of a field; what is too large becomes the largest
 abbrev pub number : ℕ → List ℕ → Option ℕ
-number largest field = cond (is_number field) (Some (min (value_from 0 field) largest)) None
+number largest field = then_some (is_number field) (min (value_from 0 field) largest)
 
 -- the devices of a route, each of 8 bits
 abbrev pub devices : List (List ℕ) → Option (List ℕ)
@@ -71,7 +58,7 @@ is_empty (field ∷ fields) = false
 
 -- a value, if no field is left
 abbrev pub alone : {A : Type 0} → A → List (List ℕ) → Option A
-alone x fields = cond (is_empty fields) (Some x) None
+alone x fields = then_some (is_empty fields) x
 
 -- exactly one number
 abbrev pub only_number_of : List (List ℕ) → Option ℕ

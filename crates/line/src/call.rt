@@ -1,4 +1,4 @@
-use crate::route_bytes::RouteBytes;
+use byte_list::ByteList;
 
 // What a line asks for.
 #[derive(Clone, Copy)]
@@ -7,7 +7,8 @@ pub enum Call {
         flow: u16,
         period: u16,
         deadline: u16,
-        routes: RouteBytes,
+        // for each route its number of devices, then the devices; a line of 160 bytes cannot give more than fit
+        routes: ByteList<160>,
     },
     Retire {
         flow: u16,

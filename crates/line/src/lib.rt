@@ -6,10 +6,8 @@ mod line_buffer;
 mod number;
 mod pieces;
 mod read;
-mod route_bytes;
 mod routes;
 
 pub use call::Call;
 pub use line_buffer::LineBuffer;
 pub use read::read_line;
-pub use route_bytes::RouteBytes;

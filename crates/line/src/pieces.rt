@@ -1,76 +1,71 @@
-ghost use Rattle.std.specs.Prelude.{◌≡◌, ◌+◌, ◌≤◌, [], length, MatchOption};
+ghost use Rattle.std.specs.Prelude.{◌≡◌, ◌+◌, ◌≤◌, ◌==◌, length, position};
+ghost use Rattle.std.specs.Iterator.{YieldsFirstRef, item_count};
 ghost use Rattle.line.specs.Grammar.{split_at, is_empty};
-ghost use Rattle.line.specs.Left.{left, size, cut_at, Next};
+ghost use Rattle.line.specs.Left.{left};
 
-// A text that is read piece by piece; between two pieces stands one separator.
+// The pieces of a text that are still to be read; between two pieces stands one separator.
 #[derive(Drop)]
 pub(crate) struct Pieces<'a> {
-    rest: &'a [u8],
+    // None once the last piece was read
+    rest: Option<&'a [u8]>,
     separator: u8,
-    more: bool,
 }
 
 impl<'a> Pieces<'a> {
     // All pieces of a text are left.
     pub(crate) fn new(text: &'a [u8], separator: u8) -> Pieces<'a>
-        ensures pieces { left result ≡ split_at separator text.now }
-        ensures bytes { size result ≡ length text.now + 1 }
+        ensures { left result ≡ split_at separator text.now }
     {
         Pieces {
-            rest: text,
+            rest: Some(text),
             separator,
-            more: true,
         }
     }
 
     // Whether all pieces were read.
+    #[tactic(auto, using(crate::proofs::Splits::empty_left))]
     pub(crate) fn is_empty(&self) -> bool
         ensures { result ≡ is_empty (left self.now) }
     {
-        !self.more
-    }
-
-    // The next piece, unless all were read.
-    pub(crate) fn next(&mut self) -> Option<&'a [u8]>
-        ensures { MatchOption result (left self.old ≡ []) (λ p. Next p.now self.old self.new) }
-    {
-        if !self.more {
-            return None;
-        }
-        let rest = self.rest;
-        let end = first_at(rest, self.separator);
-        if end == rest.len() {
-            self.more = false;
-            return Some(rest);
-        }
-        self.rest = &rest[end + 1..];
-        Some(&rest[0..end])
+        self.rest.is_none()
     }
 }
 
-// The index of the first separator, or the length where there is none.
-fn first_at(text: &[u8], separator: u8) -> usize
-    ensures within { result ≤ length text.now }
-    ensures pieces { split_at separator text.now ≡ cut_at result separator text.now }
+impl<'a> Iterator for Pieces<'a> {
+    type Item = &'a [u8];
+
+    ghost next_gives = { YieldsFirstRef left };
+
+    ghost remaining = { item_count left };
+
+    #[tactic(auto, using(crate::proofs::Splits::steps))]
+    fn next(&mut self) -> Option<&'a [u8]> {
+        let rest = self.rest?;
+        match first_at(rest, self.separator) {
+            Some(end) => {
+                self.rest = Some(&rest[end + 1..]);
+                Some(&rest[..end])
+            }
+            None => {
+                self.rest = None;
+                Some(rest)
+            }
+        }
+    }
+}
+
+// The index of the first separator.
+fn first_at(text: &[u8], separator: u8) -> Option<usize>
+    ensures { result ≡ position (λ x. x == separator) text.now }
 {
-    for (i, byte) in text.iter().enumerate() {
-        if *byte == separator {
-            return i;
-        }
-    }
-    text.len()
+    text.iter().position(|byte| *byte == separator)
 }
 
-// How many separators a text has: one fewer than pieces.
+// How many pieces a text has.
+#[tactic(auto, using(crate::proofs::Splits::most_pieces))]
 pub(crate) fn count(text: &[u8], separator: u8) -> usize
-    ensures pieces { length (split_at separator text.now) ≡ result + 1 }
-    ensures within { result ≤ length text.now }
+    ensures pieces { result ≡ length (split_at separator text.now) }
+    ensures within { result ≤ length text.now + 1 }
 {
-    let mut separators = 0;
-    for byte in text {
-        if *byte == separator {
-            separators += 1;
-        }
-    }
-    separators
+    Pieces::new(text, separator).count()
 }

@@ -25,7 +25,7 @@ pub fn read_line(line: &[u8]) -> Option<Call>
 
 // The call of a letter with the fields that are left.
 fn read_call(letter: &[u8], fields: Pieces) -> Option<Call>
-    requires { size fields ≤ 160 }
+    requires { size (left fields) ≤ 160 }
     ensures { option_map call_of result ≡ call_with letter.now (left fields.entry) }
 {
     let [letter] = letter else {
@@ -33,30 +33,23 @@ fn read_call(letter: &[u8], fields: Pieces) -> Option<Call>
     };
     match char::from(*letter) {
         'A' => read_admission(fields),
-        'R' => {
-            let flow = only_number(fields)?;
-            Some(Call::Retire { flow })
-        }
-        'C' => {
-            let channels = only_number(fields)?;
-            Some(Call::Map { channels })
-        }
-        'U' if fields.is_empty() => Some(Call::Undo),
-        'K' if fields.is_empty() => Some(Call::Settle),
+        'R' => only_number(fields).map(|flow| Call::Retire { flow }),
+        'C' => only_number(fields).map(|channels| Call::Map { channels }),
+        'U' => fields.is_empty().then_some(Call::Undo),
+        'K' => fields.is_empty().then_some(Call::Settle),
         _ => None,
     }
 }
 
 // The flow, the period, the deadline and the routes that are left.
 fn read_admission(mut fields: Pieces) -> Option<Call>
-    requires { size fields ≤ 160 }
+    requires { size (left fields) ≤ 160 }
     ensures { option_map call_of result ≡ admission (left fields.entry) }
 {
     let flow = next_number(&mut fields)?;
     let period = next_number(&mut fields)?;
     let deadline = next_number(&mut fields)?;
-    let routes = read_routes(fields)?;
-    Some(Call::Admit {
+    read_routes(fields).map(|routes| Call::Admit {
         flow,
         period,
         deadline,
@@ -69,18 +62,13 @@ fn only_number(mut fields: Pieces) -> Option<u16>
     ensures { result ≡ only_number_of (left fields.entry) }
 {
     let number = next_number(&mut fields)?;
-    if fields.is_empty() {
-        Some(number)
-    } else {
-        None
-    }
+    fields.is_empty().then_some(number)
 }
 
 // The number of the next field.
 fn next_number(fields: &mut Pieces) -> Option<u16>
     ensures value { option_map (λ n. (n, left fields.new)) result ≡ next_number_of (left fields.old) }
-    ensures bytes { OnSome result (size fields.new ≤ size fields.old) }
+    ensures bytes { OnSome result (size (left fields.new) ≤ size (left fields.old)) }
 {
-    let field = fields.next()?;
-    read_number(field, u16::MAX)
+    read_number(fields.next()?, u16::MAX)
 }

@@ -1,15 +1,14 @@
 -- Each granted call takes a plan that follows a journal to one that follows the journal after it.
-use Rattle.std.proofs.Common.{◌≡◌, ℕ, true, leb, List, [], ◌∷◌, ◌++◌, length, Ok, Err, Option, Result, sym, refl, ap, ◌∙◌, subst, arith}
+use Rattle.std.proofs.Common.{◌≡◌, ℕ, true, leb, List, [], ◌∷◌, ◌++◌, length, Some, Ok, Err, Option, Result, sym, refl, ap, ◌∙◌, subst, arith}
 use Rattle.flow.specs.declared.traffic.Flow.{Flow}
 use Rattle.flow.specs.Flows.{FlowSpec, flow_spec}
 use Rattle.flow.specs.Outcomes.{and_then}
 use Rattle.flow.proofs.Checks.{checked, unless-passed, unless_refused}
 use Rattle.table.specs.declared.fault.PlanFault.{PlanFault}
-use Rattle.table.specs.declared.fault.PlanRule.TheVariants.{Changes}
 use Rattle.table.specs.declared.table.FlowTable.{FlowTable}
 use Rattle.table.specs.Force.{in_force, enter, leave, rising}
 use Rattle.table.specs.Tables.{flows_in}
-use Rattle.table.specs.Vetting.{at, when, vetted, retire_fault}
+use Rattle.table.specs.Vetting.{when, vetted, retire_fault}
 use Rattle.table.proofs.Found.{flows-length}
 use Rattle.table.proofs.Order.{leave-enter}
 use Rattle.table.proofs.Vetted.{Admitted}
@@ -27,6 +26,7 @@ use Rattle.plan.specs.Journal.{
   play_all,
   fresh,
   standing,
+  full,
   list_fault,
   noted,
   called,
@@ -37,15 +37,15 @@ use Rattle.plan.proofs.Undoing.{play_all-append, undoes_length, undoes_push}
 
 -- a table's flows fit
 pub table_fits : (t : FlowTable) → Fits (flows_in t)
-table_fits t = record { few = omega (arith, flows-length t, t.few); short = t.short; light = t.light }
+table_fits t = record { few = omega (arith, flows-length t, t.flows.few); short = t.short; light = t.light }
 
 -- the journal with one more change listed
 abbrev pub more : Change → Journal → Journal
 more c j = record { settled = j.settled; listed = j.listed ++ c ∷ [] }
 
--- the plan's change list is full; flow n is named
-abbrev pub full_fault : ℕ → List Reversal → Option PlanFault
-full_fault n changes = when (leb 16 (length changes)) (at n Changes)
+-- the plan's list has no place for one more change
+abbrev pub full_fault : Option ℕ → List Reversal → Option PlanFault
+full_fault flow changes = when (leb 16 (length changes)) (full flow)
 
 module _ {j : Journal} {flows : List FlowSpec} {map : ChannelMap} {changes : List Reversal} (f : Follows j flows map changes) where
   -- the list of changes has as many places in use as the journal's
@@ -53,23 +53,23 @@ module _ {j : Journal} {flows : List FlowSpec} {map : ChannelMap} {changes : Lis
   list_same = undoes_length (play_all j.settled fresh) j.listed changes f.listed
 
   -- the plan's list is full where the journal's is
-  full_same : (n : ℕ) → checked (full_fault n changes) ≡ checked (list_fault n j.listed)
-  full_same n = ap (λ k. checked (when (leb 16 k) (at n Changes))) list_same
+  full_same : (flow : Option ℕ) → checked (full_fault flow changes) ≡ checked (list_fault flow j.listed)
+  full_same flow = ap (λ k. checked (when (leb 16 k) (full flow))) list_same
 
   -- where the list is full the journal refuses
-  pub room_refused : (n : ℕ) (c : Change) (e : PlanFault) → Err e ≡ checked (full_fault n changes) → noted n c j ≡ Err e
-  room_refused n c e h = unless_refused (list_fault n j.listed) e _ (h ∙ full_same n)
+  pub room_refused : (flow : Option ℕ) (c : Change) (e : PlanFault) → Err e ≡ checked (full_fault flow changes) → noted flow c j ≡ Err e
+  room_refused flow c e h = unless_refused (list_fault flow j.listed) e _ (h ∙ full_same flow)
 
   -- where it is not the journal lists the change
-  pub room-passed : (n : ℕ) (c : Change) (u : Unit {0}) → Ok u ≡ checked (full_fault n changes) → noted n c j ≡ Ok (more c j)
-  room-passed n c u h = unless-passed (list_fault n j.listed) u _ (h ∙ full_same n)
+  pub room-passed : (flow : Option ℕ) (c : Change) (u : Unit {0}) → Ok u ≡ checked (full_fault flow changes) → noted flow c j ≡ Ok (more c j)
+  room-passed flow c u h = unless-passed (list_fault flow j.listed) u _ (h ∙ full_same flow)
 
   -- the journal's answer to an admit goes by the plan's own flows
   pub called-admit : (n p d : ℕ) (bytes : List ℕ) (r : Result FlowSpec PlanFault) → vetted n p d bytes flows ≡ r →
-      called (admit n p d bytes) j ≡ and_then r (λ g. noted n (adds g) j)
+      called (admit n p d bytes) j ≡ and_then r (λ g. noted (Some n) (adds g) j)
   called-admit n p d bytes r is =
-      ap (λ fs. and_then (vetted n p d bytes fs) (λ g. noted n (adds g) j)) (sym f.inforce)
-      ∙ ap (λ x. and_then x (λ g. noted n (adds g) j)) is
+      ap (λ fs. and_then (vetted n p d bytes fs) (λ g. noted (Some n) (adds g) j)) (sym f.inforce)
+      ∙ ap (λ x. and_then x (λ g. noted (Some n) (adds g) j)) is
 
   -- what keeps a flow from being retired is the same in the journal
   retire_same : (n : ℕ) → checked (retire_fault n flows) ≡ checked (retire_fault n (standing j).flows)
@@ -81,7 +81,7 @@ module _ {j : Journal} {flows : List FlowSpec} {map : ChannelMap} {changes : Lis
 
   -- where it can the journal lists the change, if there is a place
   pub retire-passed : (n : ℕ) (u : Unit {0}) → Ok u ≡ checked (retire_fault n flows) →
-      called (retire n) j ≡ noted n (removes n) j
+      called (retire n) j ≡ noted (Some n) (removes n) j
   retire-passed n u h = unless-passed (retire_fault n (standing j).flows) u _ (h ∙ retire_same n)
 
   -- without its change list the plan follows the settled journal

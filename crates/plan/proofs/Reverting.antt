@@ -1,14 +1,21 @@
 -- Undo: the newest change taken back.
-use Rattle.std.proofs.Common.{◌≡◌, ℕ, ◌<◌, Bool, true, false, eqb, List, [], ◌∷◌, ◌++◌, length, Ok, Err, vec_items, sym, ap, ◌∙◌, subst, arith}
+use Rattle.std.proofs.Common.{◌≡◌, ℕ, ◌+◌, ◌-◌, ◌<◌, Bool, true, false, eqb, List, [], ◌∷◌, ◌++◌, length, take, slice_get, Some, None, Ok, Err, Option, sym, refl, ap, ◌∙◌, subst, arith, length-append}
+use Rattle.std.proofs.lemmas.Bool.{ne_eqb}
+use Rattle.std.proofs.lemmas.List.{take_more}
+use Rattle.std.proofs.lemmas.Option.{slice_get_within, get_or_from_slice_get, slice_get-get_or}
+use Rattle.std.proofs.Math.Seq.{take-length}
+use Rattle.std.specs.Option.{ok_or}
+use Rattle.reserved.specs.Held.{held}
 use Rattle.flow.specs.declared.traffic.Flow.{Flow}
 use Rattle.flow.specs.Flows.{FlowSpec, flow_spec}
 use Rattle.flow.specs.Outcomes.{unless}
 use Rattle.table.specs.declared.fault.PlanRule.TheVariants.{Nothing}
 use Rattle.table.specs.Force.{in_force, enter, leave}
-use Rattle.table.specs.Vetting.{at, when}
+use Rattle.table.specs.Vetting.{at_no_flow, when}
 use Rattle.table.proofs.Order.{length-enter}
 use Rattle.plan.specs.declared.channels.ChannelMap.{ChannelMap}
-use Rattle.plan.specs.declared.opened.OpenPlan.{OpenPlan}
+use Rattle.plan.specs.declared.phase.Phase.{Ghosts}
+use Rattle.plan.specs.declared.plan.Plan.{Plan}
 use Rattle.plan.specs.declared.reversal.Reversal.{Reversal}
 use Rattle.plan.specs.declared.reversal.Reversal.TheVariants.{Remove, Insert, Restore}
 use Rattle.calls.specs.Calls.{undo}
@@ -24,17 +31,18 @@ fewer j = record { settled = j.settled; listed = but_newest j.listed }
 
 module _ {j : Journal} {flows : List FlowSpec} {map : ChannelMap} {changes : List Reversal} (f : Follows j flows map changes) where
   -- the journal's answer goes by the plan's own list
-  undo_decides : (b : Bool) → b ≡ eqb (length changes) 0 → called undo j ≡ unless (when b (at 0 Nothing)) (Ok (fewer j))
+  undo_decides : (b : Bool) → b ≡ eqb (length changes) 0 → called undo j ≡ unless (when b (at_no_flow Nothing)) (Ok (fewer j))
   undo_decides b e =
-      ap (λ x. unless (when x (at 0 Nothing)) (Ok (fewer j))) (ap (λ n. eqb n 0) (sym (list_same f)) ∙ sym e)
+      ap (λ x. unless (when x (at_no_flow Nothing)) (Ok (fewer j))) (ap (λ n. eqb n 0) (sym (list_same f)) ∙ sym e)
 
   -- where nothing is listed the journal refuses
-  pub undo_refused : true ≡ eqb (length changes) 0 → called undo j ≡ Err (at 0 Nothing)
-  undo_refused e = undo_decides true e
+  pub undo_refused : changes ≡ [] → called undo j ≡ Err (at_no_flow Nothing)
+  undo_refused is = undo_decides true (ap (λ l. eqb (length l) 0) (sym is))
 
   -- where something is it strikes the newest
-  undo-passed : false ≡ eqb (length changes) 0 → called undo j ≡ Ok (fewer j)
-  undo-passed e = undo_decides false e
+  undo-passed : (rest : List Reversal) (r : Reversal) → changes ≡ rest ++ r ∷ [] → called undo j ≡ Ok (fewer j)
+  undo-passed rest r is =
+      undo_decides false (sym (ne_eqb (length changes) 0 (λ none. omega (arith, ap length is, length-append rest (r ∷ [])))))
 
   module _ (rest : List Reversal) where
     -- the newest reversal takes the newest change back
@@ -88,7 +96,26 @@ module _ {j : Journal} {flows : List FlowSpec} {map : ChannelMap} {changes : Lis
         record { inforce = f.inforce ∙ t.reverses.0; allowed = t.reverses.1; listed = t.others }
 
 -- where a change is listed, undo is granted to what follows the journal before
-pub undone : (before : OpenPlan) {flows : List FlowSpec} {map : ChannelMap} {changes : List Reversal} →
-    false ≡ eqb (length (vec_items before.changes.entries)) 0 → Moves before fewer flows map changes →
-    Outcome before undo (Ok tt) flows map changes
-undone before some = granted before fewer undo (λ j f. undo-passed f some)
+pub undone : {P : Type 0} {phase : Ghosts P} (before : Plan P phase) {flows : List FlowSpec} {map : ChannelMap} {changes : List Reversal}
+    (rest : List Reversal) (r : Reversal) → held before.changes ≡ rest ++ r ∷ [] →
+    Moves before fewer flows map changes → Outcome before undo (Ok tt) flows map changes
+undone before rest r is = granted before fewer undo (λ j f. undo-passed f rest r is)
+
+-- a list ends with its newest entry
+pub newest_ends : {A : Type 0} (xs : List A) (x : A) → slice_get xs (length xs - 1) ≡ Some x → xs ≡ take (length xs - 1) xs ++ x ∷ []
+newest_ends xs x e =
+    let n = length xs - 1 in
+    let here : n < length xs = slice_get_within xs n x e in
+    let all : length xs ≡ n + 1 = omega arith in
+    sym (take-length xs) ∙ ap (λ k. take k xs) all ∙ take_more xs n x here
+    ∙ ap (λ y. take n xs ++ y ∷ []) (get_or_from_slice_get xs n x x e)
+
+-- a list without a newest entry is empty
+pub newest_none : {A : Type 0} (xs : List A) → slice_get xs (length xs - 1) ≡ None → xs ≡ []
+newest_none [] e = refl
+newest_none (x ∷ xs) e = let some = slice_get-get_or (x ∷ xs) (length (x ∷ xs) - 1) x (omega arith) in absurd (cc)
+
+-- a refusal in place of a value that is not there is the one that was given for it
+pub refuses_none : {A E : Type 0} (o : Option A) (e d : E) → Err e ≡ ok_or o d → (o ≡ None) × (e ≡ d)
+refuses_none None e d h = (refl, cc)
+refuses_none (Some x) e d h = absurd (grind arith)

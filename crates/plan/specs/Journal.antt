@@ -1,11 +1,11 @@
 -- The journal: a plain book of the changes that were granted. It is fed only with the calls and their arguments.
-use Rattle.std.specs.Prelude.{ℕ, List, [], ◌∷◌, ◌++◌, length, Ok, Err, Option, Result, ◌==◌, nat_le}
+use Rattle.std.specs.Prelude.{ℕ, List, [], ◌∷◌, ◌++◌, length, Some, None, Ok, Err, Option, Result, ◌==◌, nat_le}
 use Rattle.flow.specs.Flows.{FlowSpec}
 use Rattle.flow.specs.Outcomes.{unless, and_then, given}
 use Rattle.table.specs.declared.fault.PlanFault.{PlanFault}
 use Rattle.table.specs.declared.fault.PlanRule.TheVariants.{Channels, Changes, Nothing}
 use Rattle.table.specs.Force.{enter, leave}
-use Rattle.table.specs.Vetting.{at, when, outside, vetted, retire_fault}
+use Rattle.table.specs.Vetting.{at_no_flow, when, outside, vetted, retire_fault}
 use Rattle.calls.specs.Calls.{Call, admit, retire, set_map, undo, settle}
 
 -- a change to a plan
@@ -49,15 +49,19 @@ standing j = play_all j.listed (play_all j.settled fresh)
 
 -- why a map cannot be set: it is 0, or its bit 15 is set
 abbrev pub map_fault : ℕ → Option PlanFault
-map_fault c = when (outside 1 32767 c) (at 0 Channels)
+map_fault c = when (outside 1 32767 c) (at_no_flow Channels)
 
--- the change list is full; flow n is named
-abbrev pub list_fault : ℕ → List Change → Option PlanFault
-list_fault n cs = when (nat_le 16 (length cs)) (at n Changes)
+-- the change list is full; a flow is named, if there is one
+abbrev pub full : Option ℕ → PlanFault
+full flow = record { flow = flow; rule = Changes }
+
+-- there is no place for one more change
+abbrev pub list_fault : Option ℕ → List Change → Option PlanFault
+list_fault flow cs = when (nat_le 16 (length cs)) (full flow)
 
 -- one more change is listed, if there is a place
-abbrev pub noted : ℕ → Change → Journal → Result Journal PlanFault
-noted n c j = unless (list_fault n j.listed) (Ok (record { settled = j.settled; listed = j.listed ++ c ∷ [] }))
+abbrev pub noted : Option ℕ → Change → Journal → Result Journal PlanFault
+noted flow c j = unless (list_fault flow j.listed) (Ok (record { settled = j.settled; listed = j.listed ++ c ∷ [] }))
 
 -- changes without the newest
 abbrev pub but_newest : List Change → List Change
@@ -68,14 +72,14 @@ but_newest (c ∷ d ∷ ds) = c ∷ but_newest (d ∷ ds)
 -- the newest change is struck, if there is one
 abbrev pub struck : Journal → Result Journal PlanFault
 struck j =
-    unless (when (length j.listed == 0) (at 0 Nothing))
+    unless (when (length j.listed == 0) (at_no_flow Nothing))
     (Ok (record { settled = j.settled; listed = but_newest j.listed }))
 
 -- the journal after a call, or the first refusal that is due
 abbrev pub called : Call → Journal → Result Journal PlanFault
-called (admit n p d routes) j = and_then (vetted n p d routes (standing j).flows) (λ f. noted n (adds f) j)
-called (retire n) j = unless (retire_fault n (standing j).flows) (noted n (removes n) j)
-called (set_map c) j = unless (map_fault c) (noted 0 (maps c) j)
+called (admit n p d routes) j = and_then (vetted n p d routes (standing j).flows) (λ f. noted (Some n) (adds f) j)
+called (retire n) j = unless (retire_fault n (standing j).flows) (noted (Some n) (removes n) j)
+called (set_map c) j = unless (map_fault c) (noted None (maps c) j)
 called undo j = struck j
 called settle j = Ok (record { settled = j.settled ++ j.listed; listed = [] })
 

@@ -1,47 +1,42 @@
 ghost use Rattle.std.specs.Prelude.{◌≡◌, IfOk, Ok};
 ghost use Rattle.calls.specs.Calls.{admit, retire, set_map, undo, settle};
 ghost use Rattle.plan.specs.Journal.{blank};
-ghost use Rattle.plan.specs.Plans.{OpenAfter, Obeys, Spares};
+ghost use Rattle.plan.specs.Plans.{After, Obeys, Spares};
 
-use crate::changes::ChangeList;
+use crate::changes::{ChangeList, check_room};
 use crate::channels::ChannelMap;
-use crate::opened::OpenPlan;
+use crate::plan::{OpenPlan, Plan};
 use crate::reversal::Reversal;
 use frame::FrameMemory;
 use std::alloc::{AllocError, Global};
-use table::{FlowTable, PlanFault, PlanRule};
+use table::{FlowRequest, FlowTable, PlanFault, PlanRule};
 
 impl OpenPlan {
     // A new plan: no flows, all 15 channels, no change listed. It reserves all the memory that the plan will need.
     pub fn new(heap: Global) -> Result<OpenPlan, AllocError>
-        ensures { IfOk result (OpenAfter blank) }
+        ensures { IfOk result (After blank) }
     {
         let table = FlowTable::new(heap)?;
         let changes = ChangeList::new(heap)?;
-        let memory = FrameMemory::new(heap)?;
-        Ok(OpenPlan {
+        let phase = FrameMemory::new(heap)?;
+        Ok(Plan {
             table,
             map: ChannelMap { bits: 32767 },
             changes,
-            memory,
+            phase,
         })
     }
 
     // Adds a flow. Routes: for each route its number of devices, then the devices.
-    pub fn admit(
-        &mut self,
-        number: u16,
-        period: u16,
-        deadline: u16,
-        routes: &[u8],
-    ) -> Result<(), PlanFault>
+    pub fn admit(&mut self, request: FlowRequest<'_>) -> Result<(), PlanFault>
         ensures kept { Spares result self.old self.new }
-        ensures law { Obeys (admit number period deadline routes.now) self.old self.new result }
+        ensures law { Obeys (admit request.entry.number request.entry.period request.entry.deadline
+            request.entry.routes.now) self.old self.new result }
     {
-        let flow = self.table.vet(number, period, deadline, routes)?;
-        self.changes.check_room(number)?;
+        let flow = self.table.vet(request)?;
+        check_room(&self.changes, Some(request.number))?;
         self.table.insert(flow);
-        self.changes.push(Reversal::Remove(number));
+        self.changes.push(Reversal::Remove(request.number));
         Ok(())
     }
 
@@ -51,7 +46,7 @@ impl OpenPlan {
         ensures law { Obeys (retire number) self.old self.new result }
     {
         self.table.check_retire(number)?;
-        self.changes.check_room(number)?;
+        check_room(&self.changes, Some(number))?;
         let flow = self.table.remove(number);
         self.changes.push(Reversal::Insert(flow));
         Ok(())
@@ -62,8 +57,8 @@ impl OpenPlan {
         ensures kept { Spares result self.old self.new }
         ensures law { Obeys (set_map channels) self.old self.new result }
     {
-        let map = ChannelMap::new(channels)?;
-        self.changes.check_room(0)?;
+        let map = ChannelMap::try_from(channels)?;
+        check_room(&self.changes, None)?;
         self.changes.push(Reversal::Restore(self.map));
         self.map = map;
         Ok(())
@@ -74,10 +69,10 @@ impl OpenPlan {
         ensures kept { Spares result self.old self.new }
         ensures law { Obeys undo self.old self.new result }
     {
-        if self.changes.is_empty() {
-            return Err(PlanRule::Nothing.at_flow(0));
-        }
-        match self.changes.pop() {
+        // looked at first, so that a refusal leaves the plan as it was, all of it
+        let newest = self.changes.last().ok_or(PlanRule::Nothing)?;
+        self.changes.pop();
+        match newest {
             Reversal::Remove(added) => {
                 self.table.remove(added);
             }
@@ -92,5 +87,20 @@ impl OpenPlan {
         ensures { Obeys settle self.old self.new (Ok tt) }
     {
         self.changes.clear();
+    }
+
+    // Ends the plan and hands out its flows. A plan is not let go by accident: this is the only way to end one.
+    pub fn into_table(self) -> FlowTable
+        ensures { result ≡ self.table }
+    {
+        let Plan {
+            table,
+            map: _,
+            changes,
+            phase,
+        } = self;
+        drop(changes);
+        drop(phase);
+        table
     }
 }

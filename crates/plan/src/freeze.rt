@@ -1,29 +1,51 @@
 ghost use Rattle.std.specs.Prelude.{◌≡◌};
 ghost use Rattle.plan.specs.Journal.{Journal};
-ghost use Rattle.plan.specs.Plans.{OpenAfter, FrozenAfter};
+ghost use Rattle.plan.specs.Plans.{After};
 
-use crate::frozen::FrozenPlan;
-use crate::opened::OpenPlan;
+use crate::plan::{FrozenPlan, OpenPlan, Plan};
 use legs::frame_of;
 
 impl OpenPlan {
     // The same plan, frozen, with its frame: after the same journal. It allocates nothing.
     pub fn freeze(self) -> FrozenPlan
         ensures same { (result.table ≡ self.table) × (result.map ≡ self.map) × (result.changes ≡ self.changes) }
-        ensures law { (j : Journal) → OpenAfter j self → FrozenAfter j result }
+        ensures law { (j : Journal) → After j self → After j result }
     {
-        let OpenPlan {
+        let Plan {
             table,
             map,
             changes,
-            memory,
+            phase: memory,
         } = self;
-        let frame = frame_of(&table, map.count() as u8, memory);
-        FrozenPlan {
+        let phase = frame_of(&table, map.count() as u8, memory);
+        Plan {
             table,
             map,
             changes,
-            frame,
+            phase,
+        }
+    }
+}
+
+impl FrozenPlan {
+    // The same plan, open again: after the same journal. The frame's memory is kept for the next freeze.
+    pub fn thaw(self) -> OpenPlan
+        ensures same { (result.table ≡ self.table) × (result.map ≡ self.map) × (result.changes ≡ self.changes) }
+        ensures memory { result.phase ≡ self.phase.memory }
+        ensures law { (j : Journal) → After j self → After j result }
+    {
+        let Plan {
+            table,
+            map,
+            changes,
+            phase: frame,
+        } = self;
+        let phase = frame.into_memory();
+        Plan {
+            table,
+            map,
+            changes,
+            phase,
         }
     }
 }

@@ -4,17 +4,12 @@
 mod changes;
 mod channels;
 mod edit;
-mod fill;
 mod freeze;
 mod frozen;
-mod frozen_reads;
-mod listing;
-mod opened;
-mod radio;
-mod reads;
+mod phase;
+mod plan;
 mod reversal;
-mod thaw;
 
 pub use channels::ChannelMap;
-pub use frozen::FrozenPlan;
-pub use opened::OpenPlan;
+pub use phase::Phase;
+pub use plan::{FrozenPlan, OpenPlan, Plan};

@@ -167,10 +167,6 @@ pub kept_swap : {X : Type 0} (q r : X → Bool) (xs : List X) → filter q (filt
 kept_swap q r [] = refl
 kept_swap q r (x ∷ xs) = kept_swap_step q r x xs (q x) (r x) refl refl (kept_swap q r xs)
 
-pub map_twice : {X Y Z : Type 0} (g : Y → Z) (h : X → Y) (xs : List X) → map g (map h xs) ≡ map (λ x. g (h x)) xs
-map_twice g h [] = refl
-map_twice g h (x ∷ xs) = ap (λ l. g (h x) ∷ l) (map_twice g h xs)
-
 -- of the numbers from a on, those from d on
 pub kept_all : (n a d : ℕ) → d ≤ a → filter (leb d) (range_with_len a n) ≡ range_with_len a n
 kept_all zero a d h = refl

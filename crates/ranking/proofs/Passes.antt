@@ -1,7 +1,9 @@
 -- The pass over a list that rises by ends finds the least slack of the ends that count.
-use Rattle.std.proofs.Common.{◌≡◌, ℕ, ◌+◌, ◌<◌, ◌≤◌, Bool, true, false, cond, ◌&&◌, ◌⊎◌, List, [], ◌∷◌, ℤ, pos, ◌+ℤ◌, ◌-ℤ◌, ◌≤ℤ◌, fold, count_by, sym, refl, ap, ◌∙◌, subst, inl, inr, arith}
+use Rattle.std.proofs.Common.{◌≡◌, ℕ, ◌+◌, ◌<◌, ◌≤◌, Bool, true, false, cond, ◌&&◌, ◌||◌, ◌⊎◌, List, [], ◌∷◌, ℤ, pos, ◌+ℤ◌, ◌-ℤ◌, ◌≤ℤ◌, Some, None, Option, fold, count_by, sym, refl, ap, ◌∙◌, subst, inl, inr, arith}
 use lib.Signed.{le_z, ≤ℤ_refl}
+use Rattle.std.specs.Bool.{then_some}
 use Rattle.std.specs.Int.{int_min}
+use Rattle.std.specs.Option.{option_map_or}
 use Rattle.std.proofs.lemmas.Int.{ints}
 use Rattle.std.proofs.lemmas.Bool.{cases_lt, and_parts, and_from, and_left, or_cases, or_left, or_right, cond-true, true≢false}
 use Rattle.ranking.specs.declared.sweep.Sweep.{Sweep}
@@ -19,6 +21,16 @@ le_to_int a b h = grind (arith, ints)
 -- a number that is not above itself less n is that
 level : (b : ℤ) (k n : ℕ) (r : ℤ) → r ≡ (b +ℤ pos 1) -ℤ pos k → r ≤ℤ ((b +ℤ pos 1) -ℤ pos (k + n)) → r ≡ (b +ℤ pos 1) -ℤ pos (k + n)
 level b k n r e h = omega (arith, ints)
+
+-- a test of the end that is kept says that one is kept
+kept_end : (o : Option ℤ) (a : ℤ) → option_map_or (le_z a) o false ≡ true → (b : ℤ) × (o ≡ Some b) × (le_z a b ≡ true)
+kept_end None a e = absurd (true≢false (sym e))
+kept_end (Some b) a e = (b, refl, e)
+
+-- a test of an end that is kept where b holds
+option_map_or-then_some : (b : Bool) (a z : ℤ) → option_map_or (le_z a) (then_some b z) false ≡ (b && le_z a z)
+option_map_or-then_some true a z = refl
+option_map_or-then_some false a z = refl
 
 -- the ends rise
 abbrev pub Rising : {X : Type 0} → (X → ℤ) → List X → Type 0
@@ -44,7 +56,12 @@ module _ {X : Type 0} (und cand : X → Bool) (end : X → ℤ) (s : ℕ) where
 
   -- where the pass stands at an end that counts, none before it is left
   abbrev pub Ready : Sweep → List X → Type 0
-  Ready w xs = w.live ≡ true → (y : X) → In y xs → w.end ≤ℤ end y
+  Ready w xs = (b : ℤ) → w.live ≡ Some b → (y : X) → In y xs → b ≤ℤ end y
+
+  -- behind x an end counts where it is in time, or where x's counts and is the same
+  counts_behind : (x y : X) (w : Sweep) → is_live_end (cand y) (end y) (passed s (cand x) (end x) w)
+      ≡ (cand y || (is_live_end (cand x) (end x) w && le_z (end y) (end x)))
+  counts_behind x y w = ap (λ b. cand y || b) (option_map_or-then_some (is_live_end (cand x) (end x) w) (end y) (end x))
 
   -- r is not above what is found, nor above any slack of an end that counts
   abbrev pub Low : Sweep → List X → ℤ → Type 0
@@ -69,27 +86,34 @@ module _ {X : Type 0} (und cand : X → Bool) (end : X → ℤ) (s : ℕ) where
   ready_step : (x : X) (xs : List X) (w : Sweep) → Rising end (x ∷ xs) → Ready w (x ∷ xs) → Ready (stepped w x) xs
   ready_step x xs w rising ready = go (und x)
     where
+      at : (b : Bool) (z : ℤ) → then_some b (end x) ≡ Some z → end x ≡ z
+      at true z e = cc
+      at false z e = absurd (let n : ◌≡◌ {A = ℕ} 0 1 = cc in omega arith)
+
       go : (b : Bool) → Ready (cond b (passed s (cand x) (end x) w) w) xs
-      go true = λ _ y i. rising.0 y i
-      go false = λ live y i. ready live y (inr i)
+      go true = λ z e y i. subst (λ (b : ℤ). b ≤ℤ end y) (at (is_live_end (cand x) (end x) w) z e) (rising.0 y i)
+      go false = λ z e y i. ready z e y (inr i)
 
   -- whose end counts before x is met, counts after
   counts_on : (x : X) (xs : List X) (w : Sweep) → Rising end (x ∷ xs) → Ready w (x ∷ xs) → (y : X) → In y xs → Counts w y →
       Counts (passed s (cand x) (end x) w) y
-  counts_on x xs w rising ready y i c = (c.0, go (or_cases (cand y) (w.live && le_z (end y) w.end) c.1))
+  counts_on x xs w rising ready y i c =
+      (c.0, counts_behind x y w ∙ go (or_cases (cand y) (option_map_or (le_z (end y)) w.live false) c.1))
     where
-      go : (cand y ≡ true) ⊎ ((w.live && le_z (end y) w.end) ≡ true) → is_live_end (cand y) (end y) (passed s (cand x) (end x) w) ≡ true
+      go : (cand y ≡ true) ⊎ (option_map_or (le_z (end y)) w.live false ≡ true) →
+          (cand y || (is_live_end (cand x) (end x) w && le_z (end y) (end x))) ≡ true
       go (inl e) = or_left (cand y) (is_live_end (cand x) (end x) w && le_z (end y) (end x)) e
       go (inr e) =
-          let parts = and_parts w.live (le_z (end y) w.end) e in
-          let back = le_from_int (end y) w.end parts.1 in
-          let here = ready parts.0 x (inl refl) in
+          let kept = kept_end w.live (end y) e in
+          let back = le_from_int (end y) kept.0 kept.2 in
+          let here = ready kept.0 kept.1 x (inl refl) in
           let on = rising.0 y i in
-          let level = le_to_int (end x) w.end (≤_trans (end x) (end y) w.end on back) in
-          let same = le_to_int (end y) (end x) (≤_trans (end y) w.end (end x) back here) in
+          let level = le_to_int (end x) kept.0 (≤_trans (end x) (end y) kept.0 on back) in
+          let same = le_to_int (end y) (end x) (≤_trans (end y) kept.0 (end x) back here) in
           or_right (cand y) (is_live_end (cand x) (end x) w && le_z (end y) (end x))
           (and_from (is_live_end (cand x) (end x) w) (le_z (end y) (end x))
-          (or_right (cand x) (w.live && le_z (end x) w.end) (and_from w.live (le_z (end x) w.end) parts.0 level)) same)
+          (or_right (cand x) (option_map_or (le_z (end x)) w.live false)
+          (ap (λ o. option_map_or (le_z (end x)) o false) kept.1 ∙ level)) same)
 
   -- what is found after an undone one whose end counts
   found : (x : X) (w : Sweep) → is_live_end (cand x) (end x) w ≡ true →
@@ -118,7 +142,7 @@ module _ {X : Type 0} (und cand : X → Bool) (end : X → ℤ) (s : ℕ) where
           let same = ≤_antisym (end y) (end x) (le_from_int (end y) (end x) parts.1) (rising.0 y other.1) in
           let at = low.1 y other.1 (
             parts.0,
-            or_right (cand y) (is_live_end (cand x) (end x) w && le_z (end y) (end x))
+            counts_behind x y w ∙ or_right (cand y) (is_live_end (cand x) (end x) w && le_z (end y) (end x))
                 (and_from (is_live_end (cand x) (end x) w) (le_z (end y) (end x)) live parts.1),
           ) in
           subst (λ (z : ℤ). r ≤ℤ z) (ap (slack_over (w.count + 1) xs) same ∙ sym (more w.count x xs (end x) u (≤ℤ_refl (end x)))) at
@@ -172,7 +196,7 @@ module _ {X : Type 0} (und cand : X → Bool) (end : X → ℤ) (s : ℕ) where
           (cand y ≡ true) ⊎ ((is_live_end (cand x) (end x) w && le_z (end y) (end x)) ≡ true) → Reached w (x ∷ xs) r
       other u y i v e (inl c) =
           let is = e ∙ sym (more w.count x xs (end y) u (rising.0 y i)) in
-          inr (y, inr i, (v, or_left (cand y) (w.live && le_z (end y) w.end) c), is)
+          inr (y, inr i, (v, or_left (cand y) (option_map_or (le_z (end y)) w.live false) c), is)
       other u y i v e (inr c) =
           let parts = and_parts (is_live_end (cand x) (end x) w) (le_z (end y) (end x)) c in
           let same = ≤_antisym (end y) (end x) (le_from_int (end y) (end x) parts.1) (rising.0 y i) in
@@ -182,7 +206,8 @@ module _ {X : Type 0} (und cand : X → Bool) (end : X → ℤ) (s : ℕ) where
       go : (b : Bool) → und x ≡ b → Reached (cond b (passed s (cand x) (end x) w) w) xs r → Reached w (x ∷ xs) r
       go true u (inl e) = best u (is_live_end (cand x) (end x) w) refl e
       go true u (inr (y, i, c, e)) =
-          other u y i c.0 e (or_cases (cand y) (is_live_end (cand x) (end x) w && le_z (end y) (end x)) c.1)
+          other u y i c.0 e
+          (or_cases (cand y) (is_live_end (cand x) (end x) w && le_z (end y) (end x)) (sym (counts_behind x y w) ∙ c.1))
       go false u (inl e) = inl e
       go false u (inr (y, i, c, e)) = inr (y, inr i, c, e ∙ sym (skip w.count x xs (end y) u))
 

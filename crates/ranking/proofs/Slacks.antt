@@ -1,9 +1,9 @@
 -- The pass over the visits of a sender finds the conflict-aware laxity.
-use Rattle.std.proofs.Common.{◌≡◌, ℕ, zero, suc, ◌+◌, ◌<◌, ◌≤◌, Bool, true, false, cond, ◌&&◌, eqb, ltb, leb, ◌⊎◌, List, [], ◌∷◌, map, length, get_or, take, ℤ, pos, negsuc, ◌+ℤ◌, ◌-ℤ◌, ◌≤ℤ◌, Some, fold, count_by, filter, sym, refl, ap, ◌∙◌, subst, inl, inr, arith}
+use Rattle.std.proofs.Common.{◌≡◌, ℕ, zero, suc, ◌+◌, ◌<◌, ◌≤◌, Bool, true, false, cond, ◌&&◌, eqb, ltb, leb, ◌⊎◌, List, [], ◌∷◌, map, length, get_or, ℤ, pos, negsuc, ◌+ℤ◌, ◌-ℤ◌, ◌≤ℤ◌, Some, None, count_by, filter, sym, refl, ap, ◌∙◌, subst, inl, inr, arith}
 use lib.Signed.{le_z, lt_z, ≤ℤ_refl}
-use Rattle.std.proofs.lemmas.List.{take_all}
+use Rattle.std.specs.Bool.{then_some}
 use Rattle.std.proofs.lemmas.Int.{ints}
-use Rattle.std.proofs.lemmas.List.Sums.{count_by-le-length, fold_more}
+use Rattle.std.proofs.lemmas.List.Sums.{count_by-le-length}
 use Rattle.std.proofs.lemmas.Bool.{and_parts, and_from, or_cases, or_left, cond-true, cond-false, true≢false, le-leb, leb-true, lt-ltb, eq-eqb}
 use Rattle.frame.specs.declared.visit.Visit.{Visit}
 use Rattle.frame.specs.Below.{some_below}
@@ -14,18 +14,22 @@ use Rattle.frame.specs.Sets.{next_hop}
 use Rattle.frame.specs.Visits.{visits_from, visits_at}
 use Rattle.frame.proofs.Scans.{some-hit}
 use Rattle.ranking.specs.declared.hops.NextHop.{NextHop}
-use Rattle.ranking.specs.Next.{end_of, released_hop_of}
+use Rattle.ranking.specs.Next.{hop_of, is_ready_leg, released_hop_of}
 use Rattle.ranking.specs.declared.sweep.Sweep.{Sweep}
 use Rattle.ranking.specs.Bounds.{LaxityBounds}
 use Rattle.ranking.specs.Laxity.{undone_at, first_of, last_of, ends_at, slack, plain_laxity, conflict_laxity, conflict_aware}
 use Rattle.ranking.specs.Sweep.{visit_undone, visit_first, visit_last, passed, met, started, least_slack_of}
-use Rattle.ranking.proofs.Next.{next-leg, next-undone, next_open, some_hop}
+use Rattle.ranking.proofs.Next.{next-leg, next-undone, next_open}
 use Rattle.ranking.proofs.Members.{In, in_map, map_in, in_kept, kept_in, count-some}
 use Rattle.ranking.proofs.Least.{least_is}
 use Rattle.ranking.proofs.Passes.{slack_over, Counts, Low, Reached, pass_low, pass_reached, le_from_int, le_to_int}
 use Rattle.frame.proofs.Shares.{visits-fit}
 use Rattle.ranking.proofs.Sorting.{rising_sort}
 use Rattle.ranking.proofs.Visits.{seen_as, hop_visit, visit_hop, slack-visits, undone_in, in_undone}
+
+-- nothing is not a value
+no_some : {A P : Type 0} {x : A} → Some x ≡ None → P
+no_some e = absurd (let n : ◌≡◌ {A = ℕ} 0 1 = cc in omega arith)
 
 module _ (f : FrameSpec) (s : ℕ) (p : List ℕ) (i : ℕ) (free : released f s p i ≡ true) where
   -- the sender, d of its next hop, and the visits there
@@ -48,11 +52,11 @@ module _ (f : FrameSpec) (s : ℕ) (p : List ℕ) (i : ℕ) (free : released f s
 
   low : Low (visit_undone p) timely visit_last s (started (plain_laxity f s p i)) visits found
   low = pass_low (visit_undone p) timely visit_last s visits (started (plain_laxity f s p i))
-      (rising_sort (visits_from from 0 f.legs)) (λ live. absurd (true≢false (sym live)))
+      (rising_sort (visits_from from 0 f.legs)) (λ b none. no_some (sym none))
 
   reached : Reached (visit_undone p) timely visit_last s (started (plain_laxity f s p i)) visits found
   reached = pass_reached (visit_undone p) timely visit_last s visits (started (plain_laxity f s p i))
-      (rising_sort (visits_from from 0 f.legs)) (λ live. absurd (true≢false (sym live)))
+      (rising_sort (visits_from from 0 f.legs)) (λ b none. no_some (sym none))
 
   -- the hops whose ends count
   abbrev counts : HopId → Bool
@@ -106,14 +110,14 @@ module _ (f : FrameSpec) (s : ℕ) (p : List ℕ) (i : ℕ) (free : released f s
           let c = and_parts (leb s (first_of f s p of.0)) (le_z (pos (first_of f s p of.0)) end) of.2 in
           subst (λ (z : ℤ). found ≤ℤ z) (sym (of.3 ∙ slack-visits f p from s (last_of f of.0)))
           (low.1 (seen_as f p from of.0) v.0
-          (v.1, or_left (timely (seen_as f p from of.0)) (false && le_z (last_of f of.0) (pos 0)) c.1))
+          (v.1, or_left (timely (seen_as f p from of.0)) false c.1))
 
       at : (y : Visit) → In y visits → Counts (visit_undone p) timely visit_last s (started (plain_laxity f s p i)) y →
           In (((visit_last y -ℤ pos s) +ℤ pos 1) -ℤ pos (0 + count_by (λ v. visit_undone p v && le_z (visit_last v) (visit_last y)) visits))
           (map (slack f s p from) (ends_at f s p from end))
       at y y-in c =
           let of = visit_hop f p from y y-in c.0 in
-          let yes : timely y ≡ true = elim (or_cases (timely y) (false && le_z (visit_last y) (pos 0)) c.1)
+          let yes : timely y ≡ true = elim (or_cases (timely y) false c.1)
           [ inl e ↦ e | inr e ↦ absurd (true≢false (sym e)) ] in
           let same : timely (seen_as f p from of.0) ≡ true = ap timely (sym of.2) ∙ yes in
           subst (λ (z : ℤ). In z (map (slack f s p from) (ends_at f s p from end)))
@@ -141,33 +145,21 @@ module _ (f : FrameSpec) (s : ℕ) (p : List ℕ) (i : ℕ) (free : released f s
           within : (r : ℕ) (b : ℤ) → s ≤ r → pos r ≤ℤ b → pos s ≤ℤ b
           within r b h k = omega (arith, ints)
 
--- from what is read of the hop
-pub laxity_is : (f : FrameSpec) (s : ℕ) (p : List ℕ) (i : ℕ) (h : NextHop) (vs : List Visit) (r : ℤ) → Some h ≡ released_hop_of f s p i →
-    vs ≡ visits_at f.legs h.sender → r ≡ least_slack_of s (end_of h) p vs → r ≡ conflict_aware f s p i
-laxity_is f s p i h vs r e are is =
-    let hop = some_hop f s p i h e in
-    let parts = and_parts (is_state_at f s p) (released f s p i) hop.0 in
-    is
-    ∙ ap (least_slack_of s (end_of h) p) are
-    ∙ ap (λ k. least_slack_of s (end_of k) p (visits_at f.legs k.sender)) hop.1
-    ∙ sym (conflict_is f s p i parts.1)
-    ∙ sym (cond-true (is_state_at f s p && released f s p i) (conflict_laxity f s p i) (pos 0) hop.0)
-
--- the pass over one visit more, and over all
-pub pass_more : (s : ℕ) (d : ℤ) (p : List ℕ) (vs : List Visit) (n : ℕ) (none : Visit) (w r : Sweep) → n < length vs →
-    w ≡ fold (met s d p) (started (d -ℤ pos s)) (take n vs) → r ≡ met s d p w (get_or vs n none) →
-    r ≡ fold (met s d p) (started (d -ℤ pos s)) (take (n + 1) vs)
-pass_more s d p vs n none w r h is e =
-    e ∙ ap (λ k. met s d p k (get_or vs n none)) is ∙ sym (fold_more (met s d p) (started (d -ℤ pos s)) vs n none h)
-
-pub pass_all : (s : ℕ) (d : ℤ) (p : List ℕ) (vs : List Visit) (n : ℕ) (w : Sweep) → length vs ≤ n →
-    w ≡ fold (met s d p) (started (d -ℤ pos s)) (take n vs) → w.best ≡ least_slack_of s d p vs
-pass_all s d p vs n w h is =
-    ap (λ k. k.best) is ∙ ap (λ l. (fold (met s d p) (started (d -ℤ pos s)) l).best) (take_all n vs h)
+-- it is what the pass finds for the hop that is read
+pub laxity_of_hop : (f : FrameSpec) (s : ℕ) (p : List ℕ) (i : ℕ) (h : NextHop) (r : ℤ) → Some h ≡ released_hop_of f s p i →
+    r ≡ least_slack_of s h.end p (visits_at f.legs h.sender) → r ≡ conflict_aware f s p i
+laxity_of_hop f s p i h r e found = go (is_ready_leg f s p i) refl e
+  where
+    go : (b : Bool) → is_ready_leg f s p i ≡ b → Some h ≡ then_some b (hop_of f p i) → r ≡ cond b (conflict_laxity f s p i) (pos 0)
+    go true ready same =
+        let is : h ≡ hop_of f p i = cc in
+        found ∙ ap (λ k. least_slack_of s k.end p (visits_at f.legs k.sender)) is
+        ∙ sym (conflict_is f s p i (and_parts (is_state_at f s p) (released f s p i) ready).1)
+    go false ready same = no_some same
 
 -- one hop more is met
-pub met-count : (s : ℕ) (d : ℤ) (p : List ℕ) (w : Sweep) (v : Visit) → (met s d p w v).count ≤ w.count + 1
-met-count s d p w v = go (visit_undone p v)
+pub met_count : (s : ℕ) (d : ℤ) (p : List ℕ) (w : Sweep) (v : Visit) → (met s d p w v).count ≤ w.count + 1
+met_count s d p w v = go (visit_undone p v)
   where
     go : (b : Bool) → (cond b (passed s (le_z (pos (visit_first s p v)) d) (visit_last v) w) w).count ≤ w.count + 1
     go true = omega arith

@@ -4,6 +4,7 @@ use lib.Signed.{le_z}
 use Rattle.std.specs.List.{range_with_len, flat_map}
 use Rattle.std.proofs.lemmas.List.Elements.{filter-append}
 use Rattle.std.proofs.lemmas.List.{map-append}
+use Rattle.std.proofs.lemmas.Simd.{map-map}
 use Rattle.std.proofs.lemmas.Bool.{le-leb}
 use Rattle.frame.specs.declared.visit.Visit.{Visit}
 use Rattle.frame.specs.Frames.{FrameSpec, no_hop, no_leg, leg_at, leg_count, size_of, hop_at}
@@ -13,7 +14,7 @@ use Rattle.frame.specs.Visits.{is_at, visit_of, leg_visits, visits_from, visits_
 use Rattle.ranking.specs.Laxity.{undone_at, first_of, last_of, slack}
 use Rattle.ranking.specs.Sweep.{visit_undone, visit_last}
 use Rattle.ranking.proofs.Members.{In, map_in, in_map, in_kept, kept_in, in_joined, joined_in, in_counting, counting_in}
-use Rattle.ranking.proofs.Members.{count_map, count_same, count_kept, kept_map, kept_swap, kept_from, map_twice}
+use Rattle.ranking.proofs.Members.{count_map, count_same, count_kept, kept_map, kept_swap, kept_from}
 use Rattle.ranking.proofs.Sorting.{in_sort, sort_in, count_sort}
 
 module _ (f : FrameSpec) (p : List ℕ) (u : ℕ) where
@@ -36,7 +37,7 @@ module _ (f : FrameSpec) (p : List ℕ) (u : ℕ) where
       kept_map (visit_undone p) (visit_of i l) (filter at (range_with_len 0 n))
       ∙ ap (map (visit_of i l)) (kept_swap (leb d) at (range_with_len 0 n))
       ∙ ap (λ ks. map (visit_of i l) (filter at ks)) (kept_from n 0 d (omega arith) ∙ ap (range_with_len d) size)
-      ∙ sym (map_twice seen_as (hop_id i) (filter at (range_with_len d (n - d))))
+      ∙ sym (map-map seen_as (hop_id i) (filter at (range_with_len d (n - d))))
       ∙ ap (map seen_as) (sym (kept_map stands_at (hop_id i) (range_with_len d (n - d))))
 
   -- the undone hops of the legs from i on

@@ -1,5 +1,6 @@
 -- The next hop of a leg, as the code reads it.
-use Rattle.std.specs.Prelude.{ℕ, ◌+◌, ◌-◌, Bool, cond, ◌&&◌, List, length, ℤ, pos, ◌-ℤ◌, Some, None, Option, slice_index_or}
+use Rattle.std.specs.Prelude.{ℕ, ◌+◌, ◌-◌, Bool, ◌&&◌, List, length, pos, ◌-ℤ◌, Option, slice_index_or}
+use Rattle.std.specs.Bool.{then_some}
 use Rattle.frame.specs.Frames.{FrameSpec, no_hop, leg_at}
 use Rattle.frame.specs.Legs.{LegSpec}
 use Rattle.frame.specs.States.{is_state_at, done_of, released}
@@ -7,7 +8,7 @@ use Rattle.ranking.specs.declared.hops.NextHop.{NextHop}
 
 -- hop k of a leg
 abbrev pub hop_in : LegSpec → ℕ → NextHop
-hop_in l k = record { sender = (slice_index_or l.hops k no_hop).sender; due = l.due; after = length l.hops - (k + 1) }
+hop_in l k = record { sender = (slice_index_or l.hops k no_hop).sender; end = pos l.due -ℤ pos (length l.hops - (k + 1)) }
 
 -- the next hop of leg i
 abbrev pub hop_of : FrameSpec → List ℕ → ℕ → NextHop
@@ -19,8 +20,4 @@ is_ready_leg f s p i = is_state_at f s p && released f s p i
 
 -- the next hop of leg i, where it is released in a state
 abbrev pub released_hop_of : FrameSpec → ℕ → List ℕ → ℕ → Option NextHop
-released_hop_of f s p i = cond (is_ready_leg f s p i) (Some (hop_of f p i)) None
-
--- d of such a hop
-abbrev pub end_of : NextHop → ℤ
-end_of h = pos h.due -ℤ pos h.after
+released_hop_of f s p i = then_some (is_ready_leg f s p i) (hop_of f p i)

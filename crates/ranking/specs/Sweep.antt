@@ -1,6 +1,8 @@
 -- One pass over the hops at a device, by the ends of their lifetimes, that finds the least slack.
-use Rattle.std.specs.Prelude.{ℕ, ◌+◌, ◌-◌, max, Bool, false, cond, ◌&&◌, ◌||◌, List, ℤ, pos, ◌+ℤ◌, ◌-ℤ◌, fold, int_le, nat_le}
+use Rattle.std.specs.Prelude.{ℕ, ◌+◌, ◌-◌, max, Bool, false, cond, ◌||◌, List, ℤ, pos, ◌+ℤ◌, ◌-ℤ◌, None, fold, int_le, nat_le}
+use Rattle.std.specs.Bool.{then_some}
 use Rattle.std.specs.Int.{int_min}
+use Rattle.std.specs.Option.{option_map_or}
 use Rattle.frame.specs.declared.visit.Visit.{Visit}
 use Rattle.frame.specs.States.{done_of}
 use Rattle.ranking.specs.declared.sweep.Sweep.{Sweep}
@@ -18,14 +20,13 @@ visit_last v = pos v.due -ℤ pos v.after
 
 -- the end b of one more undone hop counts: its r is in time, or that of one before it with the same end
 abbrev pub is_live_end : Bool → ℤ → Sweep → Bool
-is_live_end timely b w = timely || (w.live && int_le b w.end)
+is_live_end timely b w = timely || option_map_or (int_le b) w.live false
 
 -- the pass after one more undone hop, which ends at b
 abbrev pub passed : ℕ → Bool → ℤ → Sweep → Sweep
 passed s timely b w = record {
   count = w.count + 1;
-  end = b;
-  live = is_live_end timely b w;
+  live = then_some (is_live_end timely b w) b;
   best = cond (is_live_end timely b w) (int_min w.best (((b -ℤ pos s) +ℤ pos 1) -ℤ pos (w.count + 1))) w.best;
 }
 
@@ -35,7 +36,7 @@ met s d p w v = cond (visit_undone p v) (passed s (int_le (pos (visit_first s p 
 
 -- no hop is met yet
 abbrev pub started : ℤ → Sweep
-started plain = record { count = 0; end = pos 0; live = false; best = plain }
+started plain = record { count = 0; live = None; best = plain }
 
 -- the least of the plain laxity of a hop that ends at d, and the slacks that the pass finds
 abbrev pub least_slack_of : ℕ → ℤ → List ℕ → List Visit → ℤ

@@ -3,48 +3,52 @@ ghost use Rattle.frame.specs.Legs.{leg_spec};
 ghost use Rattle.frame.specs.Frames.{frame_spec};
 ghost use Rattle.ranking.specs.Next.{hop_in, is_ready_leg, released_hop_of};
 
-use frame::{Frame, Leg, done};
+use frame::{Leg, Moment};
 
-// The next hop of a leg: its sender, the leg's due slot and the number of hops after it.
+// The next hop of a leg: its sender, and the last slot of its lifetime, which may be negative.
 #[derive(Clone, Copy)]
 pub(crate) struct NextHop {
     pub(crate) sender: u8,
-    pub(crate) due: u16,
-    pub(crate) after: u8,
+    pub(crate) end: i16,
 }
 
-// The last slot of the lifetime of a hop with so many hops after it; it may be negative.
-pub(crate) fn last_slot(due: u16, after: u8) -> i32
-    ensures { result ≡ pos due -ℤ pos after }
-{
-    due as i32 - after as i32
-}
+impl NextHop {
+    // Hop `place` of a leg.
+    fn of(leg: &Leg, place: u8) -> NextHop
+        requires { place < leg.now.count }
+        ensures { result ≡ hop_in (leg_spec leg.now) place }
+    {
+        let after = leg.count - place - 1;
+        NextHop {
+            sender: leg.hops[place as usize].sender,
+            end: leg.due as i16 - after as i16,
+        }
+    }
 
-// Hop `place` of a leg.
-fn read_hop(leg: &Leg, place: u8) -> NextHop
-    requires { place < leg.now.count }
-    ensures { result ≡ hop_in (leg_spec leg.now) place }
-{
-    NextHop {
-        sender: leg.hops[place as usize].sender,
-        due: leg.due,
-        after: leg.count - place - 1,
+    // The slots from one until the end of its lifetime.
+    pub(crate) fn laxity(self, slot: u16) -> i32
+        ensures { result ≡ self.end -ℤ pos slot }
+    {
+        self.end as i32 - slot as i32
     }
 }
 
 // Whether the next hop of a leg is released in a state.
-fn is_ready(frame: &Frame, slot: u16, progress: &[u8], leg: usize) -> bool
-    ensures { result ≡ is_ready_leg (frame_spec frame.now) slot progress.now leg }
+fn is_ready(moment: Moment<'_>, leg: usize) -> bool
+    ensures { result
+        ≡ is_ready_leg (frame_spec moment.entry.frame.now) moment.entry.slot moment.entry.progress.now leg }
 {
-    frame.is_state(slot, progress) && frame.is_released(slot, progress, leg)
+    moment.is_state() && moment.is_released(leg)
 }
 
 // The next hop of a leg, where it is released in a state.
-pub(crate) fn released_hop(frame: &Frame, slot: u16, progress: &[u8], leg: usize) -> Option<NextHop>
-    ensures { result ≡ released_hop_of (frame_spec frame.now) slot progress.now leg }
+pub(crate) fn released_hop(moment: Moment<'_>, leg: usize) -> Option<NextHop>
+    ensures { result
+        ≡ released_hop_of (frame_spec moment.entry.frame.now) moment.entry.slot moment.entry.progress.now leg }
 {
-    if !is_ready(frame, slot, progress, leg) {
+    let found = moment.frame.legs().get(leg)?;
+    if !is_ready(moment, leg) {
         return None;
     }
-    Some(read_hop(&frame.legs()[leg], done(progress, leg)))
+    Some(NextHop::of(found, moment.done(leg)))
 }

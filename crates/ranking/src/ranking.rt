@@ -1,13 +1,14 @@
 ghost use Rattle.std.specs.Prelude.{◌≡◌, ℕ, List, ℤ};
 ghost use Rattle.frame.specs.Frames.{FrameSpec, frame_spec};
 
-use frame::Frame;
+use frame::Moment;
 
 // A ranking gives each leg whose next hop is released in a state a key; the lowest goes first, ties by leg order.
 pub trait Ranking {
     // the key of a leg at a slot and progress of a frame
     ghost key: { Self → FrameSpec → ℕ → List ℕ → ℕ → ℤ };
 
-    fn rank(&self, frame: &Frame, slot: u16, progress: &[u8], leg: usize) -> i32
-        ensures { result ≡ key self.now (frame_spec frame.now) slot progress.now leg };
+    fn rank(&self, moment: Moment<'_>, leg: usize) -> i32
+        ensures { result
+            ≡ key self.now (frame_spec moment.entry.frame.now) moment.entry.slot moment.entry.progress.now leg };
 }

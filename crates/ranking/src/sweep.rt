@@ -1,95 +1,101 @@
-ghost use Rattle.std.specs.Prelude.{◌≡◌, ◌+◌, ◌-◌, ◌<◌, ◌≤◌, max, length, pos, ◌+ℤ◌, ◌-ℤ◌, int_le};
-ghost use Rattle.ranking.specs.Next.{end_of};
-ghost use Rattle.ranking.specs.Sweep.{is_live_end, least_slack_of, met, passed};
+ghost use Rattle.std.specs.Prelude.{◌≡◌, ◌+◌, ◌-◌, ◌<◌, ◌≤◌, max, pos, negsuc, ◌+ℤ◌, ◌-ℤ◌, ◌≤ℤ◌, int_le};
+ghost use Rattle.frame.specs.Frames.{frame_spec};
+ghost use Rattle.frame.specs.Visits.{visits_at};
+ghost use Rattle.ranking.specs.Sweep.{is_live_end, least_slack_of, met, passed, visit_last};
 
-use crate::hops::{NextHop, last_slot};
-use frame::{Visit, done};
+use crate::hops::NextHop;
+use frame::{Moment, Visit};
 
-// A pass over the hops at a device by the ends of their lifetimes: the undone ones so far, the end of the latest of them,
-// whether a hop with that end begins in time, and the least laxity so far.
+// A pass over the hops at a device by the ends of their lifetimes: the undone ones so far, the end of the latest of them
+// where a hop with that end begins in time, and the least laxity so far.
 #[derive(Clone, Copy)]
 pub(crate) struct Sweep {
     pub(crate) count: u16,
-    pub(crate) end: i32,
-    pub(crate) live: bool,
+    pub(crate) live: Option<i32>,
     pub(crate) best: i32,
 }
 
-// The slots from `slot` to the end of a lifetime, less so many hops.
-fn slack(due: u16, after: u8, slot: u16, count: u16) -> i32
-    ensures { result ≡ (((pos due -ℤ pos after) -ℤ pos slot) +ℤ pos 1) -ℤ pos count }
+// The last slot of a hop's lifetime; it may be negative.
+fn last_slot(visit: &Visit) -> i32
+    ensures value { result ≡ visit_last visit.now }
+    ensures low { negsuc 254 ≤ℤ result }
+    ensures high { result ≤ℤ pos 65535 }
 {
-    last_slot(due, after) - slot as i32 + 1 - count as i32
+    visit.due as i32 - visit.after as i32
+}
+
+// The slots from `slot` to the end of a hop's lifetime, less so many hops.
+fn slack(visit: &Visit, slot: u16, count: u16) -> i32
+    ensures { result ≡ ((visit_last visit.now -ℤ pos slot) +ℤ pos 1) -ℤ pos count }
+{
+    last_slot(visit) - slot as i32 + 1 - count as i32
 }
 
 // Whether the lifetime of an undone hop begins no later than that of the ranked hop ends.
 fn begins_by(visit: &Visit, slot: u16, done: u8, hop: NextHop) -> bool
     requires { done ≤ visit.now.place }
-    ensures { result ≡ int_le (pos (max visit.now.release slot + (visit.now.place - done))) (end_of hop) }
+    ensures { result ≡ int_le (pos (max visit.now.release slot + (visit.now.place - done))) hop.end }
 {
     let first = visit.release.max(slot) as i32 + (visit.place - done) as i32;
-    first <= last_slot(hop.due, hop.after)
+    first <= hop.end as i32
 }
 
 impl Sweep {
     // Whether the end of the next hop counts: it begins in time, or one before it with the same end does.
-    fn is_live(&self, timely: bool, due: u16, after: u8) -> bool
-        ensures { result ≡ is_live_end timely (pos due -ℤ pos after) self.now }
+    fn is_live(self, timely: bool, end: i32) -> bool
+        ensures { result ≡ is_live_end timely end self }
     {
-        timely || self.live && last_slot(due, after) <= self.end
+        timely || self.live.is_some_and(|last| end <= last)
     }
 
     // One more undone hop, which begins in time or not.
-    fn pass(&self, slot: u16, timely: bool, due: u16, after: u8) -> Sweep
-        requires { self.now.count < 2048 }
-        ensures { result ≡ passed slot timely (pos due -ℤ pos after) self.now }
+    fn pass(self, slot: u16, timely: bool, visit: &Visit) -> Sweep
+        requires { self.count < 2048 }
+        ensures { result ≡ passed slot timely (visit_last visit.now) self }
     {
         let count = self.count + 1;
-        let live = self.is_live(timely, due, after);
-        let slack = slack(due, after, slot, count);
+        let end = last_slot(visit);
+        if !self.is_live(timely, end) {
+            return Sweep {
+                count,
+                live: None,
+                best: self.best,
+            };
+        }
         Sweep {
             count,
-            end: last_slot(due, after),
-            live,
-            best: if live && slack < self.best {
-                slack
-            } else {
-                self.best
-            },
+            live: Some(end),
+            best: self.best.min(slack(visit, slot, count)),
         }
     }
 
     // One more hop, which counts where it is undone; it begins in time if within the lifetime of the ranked hop.
-    fn meet(&self, slot: u16, progress: &[u8], hop: NextHop, visit: &Visit) -> Sweep
-        requires { self.now.count < 2048 }
-        ensures { result ≡ met slot (end_of hop) progress.now self.now visit.now }
+    fn meet(self, moment: Moment<'_>, hop: NextHop, visit: &Visit) -> Sweep
+        requires { self.count < 2048 }
+        ensures { result ≡ met moment.entry.slot hop.end moment.entry.progress.now self visit.now }
     {
-        let done = done(progress, visit.leg as usize);
+        let done = moment.done(visit.leg as usize);
         if visit.place < done {
-            return *self;
+            return self;
         }
-        self.pass(
-            slot,
-            begins_by(visit, slot, done, hop),
-            visit.due,
-            visit.after,
-        )
+        self.pass(moment.slot, begins_by(visit, moment.slot, done, hop), visit)
     }
 }
 
-// The least of a hop's plain laxity and the slacks that one pass over the hops at its sender finds.
-pub(crate) fn least_slack(visits: &[Visit], slot: u16, progress: &[u8], hop: NextHop) -> i32
-    requires { length visits.now ≤ 2048 }
-    ensures { result ≡ least_slack_of slot (end_of hop) progress.now visits.now }
+// The least of the next hop's plain laxity and the slacks that one pass over the hops at its sender finds.
+#[tactic(auto, using(crate::proofs::Slacks::met_count))]
+pub(crate) fn least_slack(moment: Moment<'_>, hop: NextHop) -> i32
+    ensures { result ≡ least_slack_of moment.entry.slot hop.end moment.entry.progress.now
+        (visits_at (frame_spec moment.entry.frame.now).legs hop.sender) }
 {
     let mut sweep = Sweep {
         count: 0,
-        end: 0,
-        live: false,
-        best: last_slot(hop.due, hop.after) - slot as i32,
+        live: None,
+        best: hop.laxity(moment.slot),
     };
-    for visit in visits {
-        sweep = sweep.meet(slot, progress, hop, visit);
+    // a loop and no `fold`: tried, and that `meet` may be called, with its bound on the count, was not proved
+    for visit in moment.frame.visits(hop.sender) {
+        sweep = sweep.meet(moment, hop, visit);
     }
     sweep.best
 }

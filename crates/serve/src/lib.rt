@@ -15,13 +15,9 @@ const CHUNK: usize = 4096;
 // Writes the answer to a line, at once.
 fn write<W: Write>(output: &mut W, reply: Result<Granted, ConsoleFault>) -> io::Result<()> {
     let mut room = [0; ANSWER];
-    match write_reply(reply, &mut room) {
-        Ok(length) => {
-            output.write_all(&room[0..length])?;
-            output.flush()
-        }
-        Err(_) => Err(io::Error::from(ErrorKind::OutOfMemory)),
-    }
+    let length = write_reply(reply, &mut room).map_err(|_| ErrorKind::OutOfMemory)?;
+    output.write_all(&room[..length])?;
+    output.flush()
 }
 
 // Hands the bytes to the console, and writes each answer before the next byte is looked at.
@@ -33,10 +29,9 @@ fn answer_all<W: Write>(
     for byte in bytes {
         let (next, reply) = console.receive(*byte);
         console = next;
-        if let Some(reply) = reply {
-            if let Err(error) = write(output, reply) {
-                return (console, Err(error));
-            }
+        let result = reply.map_or(Ok(()), |reply| write(output, reply));
+        if result.is_err() {
+            return (console, result);
         }
     }
     (console, Ok(()))
@@ -49,18 +44,15 @@ fn answer_input<R: Read, W: Write>(
     output: &mut W,
 ) -> (Console, io::Result<()>) {
     let mut chunk = [0; CHUNK];
+    // a count, and no loop without end: each loop is proved to end, and so many reads never come
     for _ in 0..u64::MAX {
         let length = match input.read(&mut chunk) {
             Ok(0) => return (console, Ok(())),
             Ok(length) => length,
-            Err(error) => {
-                if error.kind() == ErrorKind::Interrupted {
-                    continue;
-                }
-                return (console, Err(error));
-            }
+            Err(error) if error.kind() == ErrorKind::Interrupted => continue,
+            Err(error) => return (console, Err(error)),
         };
-        let (next, result) = answer_all(console, &chunk[0..length], output);
+        let (next, result) = answer_all(console, &chunk[..length], output);
         console = next;
         if result.is_err() {
             return (console, result);
@@ -76,8 +68,5 @@ pub fn serve<R: Read, W: Write>(heap: Global, input: &mut R, output: &mut W) -> 
     let (plan, reply) = console.finish();
     drop(plan.into_table());
     result?;
-    match reply {
-        Some(reply) => write(output, reply),
-        None => Ok(()),
-    }
+    reply.map_or(Ok(()), |reply| write(output, reply))
 }

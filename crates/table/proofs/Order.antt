@@ -13,15 +13,6 @@ length-enter f (g ∷ gs) = go (ltb g.number f.number) (length-enter f gs)
     go true ih = ap suc ih
     go false ih = refl
 
--- when a flow leaves there are no more than before
-pub length-leave : (n : ℕ) (fs : List FlowSpec) → length (leave n fs) ≤ length fs
-length-leave n [] = omega arith
-length-leave n (g ∷ gs) = go (eqb g.number n) (length-leave n gs)
-  where
-    go : (b : Bool) → length (leave n gs) ≤ length gs → length (cond b gs (g ∷ leave n gs)) ≤ suc (length gs)
-    go true ih = omega arith
-    go false ih = omega arith
-
 -- what is above n is above every number up to n
 above_lower : (m n : ℕ) (fs : List FlowSpec) → m ≤ n → above n fs ≡ true → above m fs ≡ true
 above_lower m n [] h a = refl

@@ -2,13 +2,12 @@
 use Rattle.std.proofs.Common.{◌≡◌, ℕ, ◌<◌, ◌≤◌, Bool, true, false, ◌&&◌, ltb, leb, List, length, Some, None, Ok, Err, Option, Result, sym, refl, ap, ◌∙◌, arith}
 use Rattle.std.proofs.lemmas.Bool.{not-false, and_parts, leb-true, leb-false, ltb-false, le-ltb, lt-ltb}
 use Rattle.flow.specs.declared.fault.RouteFault.{RouteFault}
-use Rattle.flow.specs.declared.routes.Routes.{Routes}
-use Rattle.flow.specs.Outcomes.{or_else, unless, and_then, given}
+use Rattle.flow.specs.Outcomes.{or_else, unless, and_then}
 use Rattle.flow.specs.Reading.{read_routes_of}
-use Rattle.flow.specs.Flows.{FlowSpec, routes_in}
-use Rattle.flow.proofs.Checks.{checked, then_ok, unless-ok, unless-passed, unless_refused}
+use Rattle.flow.specs.Flows.{FlowSpec}
+use Rattle.flow.proofs.Checks.{checked, then_ok, unless-ok}
 use Rattle.table.specs.declared.fault.PlanFault.{PlanFault}
-use Rattle.table.specs.declared.fault.PlanRule.TheVariants.{Number, InForce, Full, Period, Deadline, Frame, Transmissions}
+use Rattle.table.specs.declared.fault.PlanRule.TheVariants.{Number, InForce, Full, Frame, Transmissions}
 use Rattle.table.specs.Force.{in_force, enter}
 use Rattle.table.specs.Frame.{frame, transmissions}
 use Rattle.table.specs.Vetting.{at, when, outside, result_at_flow, place_fault, time_fault, frame_fault, vetted}
@@ -50,20 +49,6 @@ place_ok n fs e =
       new = when-none (in_force n fs) (at n InForce) b.0;
       room = leb-false 32 (length fs) (when-none (leb 32 (length fs)) (at n Full) b.1);
     }
-
--- period and deadline are in range
-pub record Timed (p d : ℕ) : Type 0 where
-  pub least : 1 ≤ d
-  pub prompt : d ≤ p
-  pub most : p ≤ 1024
-
--- a period and a deadline without a fault are in range
-pub time_ok : (n p d : ℕ) → time_fault n p d ≡ None → Timed p d
-time_ok n p d e =
-    let a = none_both (when (outside 1 1024 p) (at n Period)) (when (outside 1 p d) (at n Deadline)) e in
-    let r = inside 1 1024 p (when-none (outside 1 1024 p) (at n Period) a.0) in
-    let s = inside 1 p d (when-none (outside 1 p d) (at n Deadline) a.1) in
-    record { least = s.0; prompt = s.1; most = r.1 }
 
 -- the flows fit one frame
 pub record Framed (fs : List FlowSpec) : Type 0 where
@@ -125,40 +110,3 @@ vetted-ok n p d bytes fs f e =
 
     framed : Result (List (List ℕ)) RouteFault → Result FlowSpec PlanFault
     framed r = and_then (result_at_flow n r) (λ routes. fitting (flow routes))
-
--- routes that were read for a flow are those in the bytes
-pub read_is : (n : ℕ) (r : Result Routes RouteFault) (x : Routes) (q : Result (List (List ℕ)) RouteFault) →
-    Ok x ≡ result_at_flow n r → given routes_in r ≡ q → q ≡ Ok (routes_in x)
-read_is n (Ok y) x q e is = let same : x ≡ y = cc in sym is ∙ ap (λ z. Ok (routes_in z)) (sym same)
-read_is n (Err f) x q e is = absurd (grind arith)
-
--- the checks of a flow, one after the other
-module _ (n p d : ℕ) (bytes : List ℕ) (fs : List FlowSpec) where
-  -- a flow whose number has no place is refused
-  pub place_refused : (e : PlanFault) → Err e ≡ checked (place_fault n fs) → vetted n p d bytes fs ≡ Err e
-  place_refused e no' = unless_refused (place_fault n fs) e _ no'
-
-  -- the flow with its routes
-  abbrev pub entering : List (List ℕ) → FlowSpec
-  entering routes = record { number = n; period = p; deadline = d; routes = routes }
-
-  -- it, if it fits the frame
-  abbrev fitting : FlowSpec → Result FlowSpec PlanFault
-  fitting g = unless (frame_fault n (enter g fs)) (Ok g)
-
-  -- past the other checks only the frame decides
-  to_the_frame : (u v : Unit {0}) (routes : List (List ℕ)) →
-      Ok u ≡ checked (place_fault n fs) → Ok v ≡ checked (time_fault n p d) → read_routes_of bytes ≡ Ok routes →
-      vetted n p d bytes fs ≡ fitting (entering routes)
-  to_the_frame u v routes placed timed read =
-      unless-passed (place_fault n fs) u _ placed ∙ unless-passed (time_fault n p d) v _ timed
-      ∙ ap (λ r. and_then (result_at_flow n r) (λ rs. fitting (entering rs))) read
-
-  -- a flow that does not fit the frame is refused
-  pub then_refused : (u v : Unit {0}) (routes : List (List ℕ)) (e : PlanFault) →
-      Ok u ≡ checked (place_fault n fs) → Ok v ≡ checked (time_fault n p d) → read_routes_of bytes ≡ Ok routes →
-      Err e ≡ checked (frame_fault n (enter (entering routes) fs)) →
-      vetted n p d bytes fs ≡ Err e
-  then_refused u v routes e placed timed read no' =
-      let f = entering routes in
-      to_the_frame u v routes placed timed read ∙ unless_refused (frame_fault n (enter f fs)) e (Ok f) no'

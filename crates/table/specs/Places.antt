@@ -1,17 +1,18 @@
 -- Where a flow stands in the list, or would stand.
-use Rattle.std.specs.Prelude.{ℕ, not, List, map, length, Option, nat_eq, nat_lt, slice_index}
-use Rattle.std.specs.Option.{unwrap_or}
-use Rattle.flow.specs.First.{first}
+use Rattle.std.specs.Prelude.{◌≡◌, ℕ, ◌<◌, ◌≤◌, List, map, length, slice_index}
 use Rattle.flow.specs.Flows.{FlowSpec}
 
 -- the number of the flow at index i
 abbrev pub number_at : List FlowSpec → ℕ → ℕ
 number_at fs i = slice_index (map (λ f. f.number) fs) i
 
--- the index of the flow of number n
-abbrev pub index_of : ℕ → List FlowSpec → Option ℕ
-index_of n fs = first (λ i. nat_eq (number_at fs i) n) (length fs)
+-- the flow of number n stands at index i
+pub record IsIndexOf (n : ℕ) (fs : List FlowSpec) (i : ℕ) : Type 0 where
+  pub inside : i < length fs
+  pub named : number_at fs i ≡ n
 
--- the index of the first flow whose number is not below n, or the list's end
-abbrev pub place_of : ℕ → List FlowSpec → ℕ
-place_of n fs = unwrap_or (first (λ i. not (nat_lt (number_at fs i) n)) (length fs)) (length fs)
+-- a flow of number n would stand at index i: the numbers before it are lower, those from it on are higher
+pub record IsPlaceOf (n : ℕ) (fs : List FlowSpec) (i : ℕ) : Type 0 where
+  pub within : i ≤ length fs
+  pub lower : (k : ℕ) → k < i → number_at fs k < n
+  pub higher : (k : ℕ) → i ≤ k → k < length fs → n < number_at fs k

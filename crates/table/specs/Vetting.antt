@@ -22,7 +22,11 @@ use Rattle.table.specs.Frame.{frame, transmissions}
 
 -- flow n breaks the rule
 abbrev pub at : ℕ → PlanRule → PlanFault
-at n rule = record { flow = n; rule = rule }
+at n rule = record { flow = Some n; rule = rule }
+
+-- the rule is broken, and no flow is named
+abbrev pub at_no_flow : PlanRule → PlanFault
+at_no_flow rule = record { flow = None; rule = rule }
 
 -- the fault, where the rule is broken
 abbrev pub when : {E : Type 0} → Bool → E → Option E

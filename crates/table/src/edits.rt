@@ -5,9 +5,9 @@ ghost use Rattle.table.specs.Frame.{LeastCommonMultiple, frame, transmissions};
 ghost use Rattle.table.specs.Tables.{flows_in};
 
 use crate::frame::{frame_of, transmissions_of};
-use crate::places::{find, place};
 use crate::table::FlowTable;
 use flow::Flow;
+use reserved::Reserved;
 use std::alloc::{AllocError, Global};
 
 impl FlowTable {
@@ -15,7 +15,7 @@ impl FlowTable {
     pub fn new(heap: Global) -> Result<FlowTable, AllocError>
         ensures { IfOk result (λ t. flows_in t ≡ []) }
     {
-        let flows = Vec::with_capacity(heap, 32)?;
+        let flows = Reserved::new(heap)?;
         Ok(FlowTable { flows })
     }
 
@@ -32,7 +32,7 @@ impl FlowTable {
     pub fn holds(&self, number: u16) -> bool
         ensures { result ≡ in_force number (flows_in self.now) }
     {
-        find(self.as_slice(), number).is_some()
+        self.search(number).is_ok()
     }
 
     // The slots of the frame: the least common multiple of the periods, 1 without flows.
@@ -52,7 +52,7 @@ impl FlowTable {
         transmissions_of(self.as_slice(), self.frame())
     }
 
-    // Puts a flow at its place. It is new, and with it the flows fit one frame.
+    // Puts a flow at its place. It is new, there is room for it, and with it the flows fit one frame.
     pub fn insert(&mut self, flow: Flow)
         requires new { in_force flow.number (flows_in self.old) ≡ false }
         requires room { length (flows_in self.old) < 32 }
@@ -60,9 +60,8 @@ impl FlowTable {
         requires light { transmissions (enter (flow_spec flow) (flows_in self.old)) ≤ 2048 }
         ensures { flows_in self.new ≡ enter (flow_spec flow) (flows_in self.old) }
     {
-        let i = place(self.as_slice(), flow.number);
-        // there is room, so it does not fail
-        let _ = self.flows.insert(i, flow);
+        let i = self.search(flow.number).unwrap_err();
+        self.flows.insert(i, flow);
     }
 
     // Takes out the flow of that number, which is in force. Put back, it stands where it stood.
@@ -72,9 +71,7 @@ impl FlowTable {
         ensures after { flows_in self.new ≡ leave number (flows_in self.old) }
         ensures back { enter (flow_spec result) (leave number (flows_in self.old)) ≡ flows_in self.old }
     {
-        match find(self.as_slice(), number) {
-            Some(i) => self.flows.remove(i),
-            None => unreachable(),
-        }
+        let i = self.search(number).unwrap();
+        self.flows.remove(i)
     }
 }

@@ -1,7 +1,10 @@
+ghost use Rattle.std.specs.Prelude.{◌≡◌};
+ghost use Rattle.table.specs.Vetting.{at, at_no_flow};
+
 use flow::RouteFault;
 
 // A rule of the plan that a call breaks.
-#[derive(Clone, Copy)]
+#[derive(Clone, Copy, Debug, PartialEq, Eq)]
 pub enum PlanRule {
     // the flow's number is 0 or above 999
     Number,
@@ -29,9 +32,29 @@ pub enum PlanRule {
     Nothing,
 }
 
-// The first rule that a call breaks, and the number of the flow that it names, or 0.
-#[derive(Clone, Copy)]
+impl PlanRule {
+    // The rule, broken by that flow.
+    pub fn at_flow(self, flow: u16) -> PlanFault
+        ensures { result ≡ at flow self }
+    {
+        PlanFault {
+            flow: Some(flow),
+            rule: self,
+        }
+    }
+}
+
+// The first rule that a call breaks, and the number of the flow that it names, if it names one.
+#[derive(Clone, Copy, Debug, PartialEq, Eq)]
 pub struct PlanFault {
-    pub flow: u16,
+    pub flow: Option<u16>,
     pub rule: PlanRule,
+}
+
+impl From<PlanRule> for PlanFault {
+    ghost from_gives = { λ rule fault. fault ≡ at_no_flow rule };
+
+    fn from(rule: PlanRule) -> PlanFault {
+        PlanFault { flow: None, rule }
+    }
 }

@@ -11,6 +11,7 @@ fn lcm(a: u32, b: u32) -> u32
     requires few { (a ≤ 1024) × (b ≤ 1024) }
     ensures { LeastMultiple a b result }
 {
+    // no plainer as a chain: it would have to show that a multiple below the product is found
     let mut m = a;
     while m % b != 0 {
         m += a;
@@ -24,6 +25,7 @@ pub(crate) fn frame_of(flows: &[Flow]) -> u32
     ensures value { result ≡ frame (map flow_spec flows.now) }
     ensures least { LeastCommonMultiple result (map flow_spec flows.now) }
 {
+    // a loop over the flows: the form that the rules name for T
     let mut slots = 1;
     for flow in flows {
         slots = lcm(slots, flow.period as u32);
@@ -55,6 +57,7 @@ pub(crate) fn transmissions_of(flows: &[Flow], slots: u32) -> u32
     ensures value { result ≡ transmissions_in slots (map flow_spec flows.now) }
     ensures bound { result ≤ 786432 }
 {
+    // a loop over the flows: the form that the rules name for Q
     let mut total = 0;
     for flow in flows {
         total += transmissions_by(flow, slots);

@@ -5,8 +5,10 @@ mod edits;
 mod fault;
 mod frame;
 mod places;
+mod request;
 mod table;
 mod vet;
 
 pub use fault::{PlanFault, PlanRule};
+pub use request::FlowRequest;
 pub use table::FlowTable;

@@ -1,31 +1,17 @@
-ghost use Rattle.std.specs.Prelude.{◌≡◌, ◌<◌, ◌≤◌, map, length, IfSome};
-ghost use Rattle.flow.specs.Flows.{flow_spec};
-ghost use Rattle.table.specs.Places.{index_of, place_of};
+ghost use Rattle.std.specs.Prelude.{◌≡◌, is_ok, MatchResult};
+ghost use Rattle.table.specs.Force.{in_force};
+ghost use Rattle.table.specs.Places.{IsIndexOf, IsPlaceOf};
+ghost use Rattle.table.specs.Tables.{flows_in};
 
-use flow::Flow;
+use crate::table::FlowTable;
 
-// The index of the flow of that number.
-pub(crate) fn find(flows: &[Flow], number: u16) -> Option<usize>
-    ensures value { result ≡ index_of number (map flow_spec flows.now) }
-    ensures below { IfSome result (λ i. i < length flows.now) }
-{
-    for (i, flow) in flows.iter().enumerate() {
-        if flow.number == number {
-            return Some(i);
-        }
+impl FlowTable {
+    // The index of the flow of that number, or else the index at which it would stand.
+    pub(crate) fn search(&self, number: u16) -> Result<usize, usize>
+        ensures held { is_ok result ≡ in_force number (flows_in self.now) }
+        ensures place { MatchResult result (IsIndexOf number (flows_in self.now)) (IsPlaceOf number (flows_in self.now)) }
+    {
+        self.as_slice()
+            .binary_search_by_key(&number, |flow| flow.number)
     }
-    None
-}
-
-// The index at which a flow of that number is to stand.
-pub(crate) fn place(flows: &[Flow], number: u16) -> usize
-    ensures value { result ≡ place_of number (map flow_spec flows.now) }
-    ensures bound { result ≤ length flows.now }
-{
-    for (i, flow) in flows.iter().enumerate() {
-        if flow.number >= number {
-            return i;
-        }
-    }
-    flows.len()
 }

@@ -1,29 +1,22 @@
 ghost use Rattle.std.specs.Prelude.{◌≡◌, Ok};
-ghost use Rattle.flow.specs.Flows.{flow_spec};
+ghost use Rattle.flow.specs.Flows.{flow_spec, routes_in};
 ghost use Rattle.flow.specs.Outcomes.{unless, given};
+ghost use Rattle.flow.specs.Reading.{read_routes_of};
 ghost use Rattle.table.specs.Force.{enter};
 ghost use Rattle.table.specs.Tables.{flows_in};
-ghost use Rattle.table.specs.Vetting.{at, result_at_flow, number_fault, place_fault, retire_fault, time_fault, frame_fault, vetted};
+ghost use Rattle.table.specs.Vetting.{result_at_flow, number_fault, place_fault, retire_fault, time_fault, frame_fault, vetted};
 
 use crate::fault::{PlanFault, PlanRule};
 use crate::frame::{frame_with, transmissions_by, transmissions_of};
+use crate::request::FlowRequest;
 use crate::table::FlowTable;
-use flow::{Flow, RouteFault, Routes};
+use flow::{Flow, Routes};
 
 // The most slots that a frame may have.
 const LONGEST: u32 = 1024;
 
 // The most transmissions that a frame may have.
 const HEAVIEST: u32 = 2048;
-
-impl PlanRule {
-    // The rule, broken by that flow; 0 where none is named.
-    pub fn at_flow(self, flow: u16) -> PlanFault
-        ensures { result ≡ at flow self }
-    {
-        PlanFault { flow, rule: self }
-    }
-}
 
 impl FlowTable {
     // Whether a flow of that number may enter.
@@ -34,7 +27,7 @@ impl FlowTable {
         if self.holds(number) {
             return Err(PlanRule::InForce.at_flow(number));
         }
-        if self.as_slice().len() >= 32 {
+        if self.flows.is_full() {
             return Err(PlanRule::Full.at_flow(number));
         }
         Ok(())
@@ -69,22 +62,17 @@ impl FlowTable {
     }
 
     // The flow that may enter, or the first rule that keeps it out.
-    pub fn vet(
-        &self,
-        number: u16,
-        period: u16,
-        deadline: u16,
-        routes: &[u8],
-    ) -> Result<Flow, PlanFault>
-        ensures { given flow_spec result ≡ vetted number period deadline routes.now (flows_in self.now) }
+    pub fn vet(&self, request: FlowRequest<'_>) -> Result<Flow, PlanFault>
+        ensures { given flow_spec result ≡ vetted request.entry.number request.entry.period request.entry.deadline
+            request.entry.routes.now (flows_in self.now) }
     {
-        self.check_place(number)?;
-        check_times(number, period, deadline)?;
-        let routes = at_flow(Routes::read(routes), number)?;
+        self.check_place(request.number)?;
+        request.check_times()?;
+        let routes = request.read_routes()?;
         let flow = Flow {
-            number,
-            period,
-            deadline,
+            number: request.number,
+            period: request.period,
+            deadline: request.deadline,
             routes,
         };
         self.check_frame(&flow)?;
@@ -92,35 +80,35 @@ impl FlowTable {
     }
 }
 
+impl FlowRequest<'_> {
+    // Whether period and deadline are in range.
+    fn check_times(&self) -> Result<(), PlanFault>
+        ensures { result ≡ unless (time_fault self.now.number self.now.period self.now.deadline) (Ok tt) }
+    {
+        if !(1..=1024).contains(&self.period) {
+            return Err(PlanRule::Period.at_flow(self.number));
+        }
+        if !(1..=self.period).contains(&self.deadline) {
+            return Err(PlanRule::Deadline.at_flow(self.number));
+        }
+        Ok(())
+    }
+
+    // The routes in the bytes. A fault in a route is one of the flow that is asked for.
+    fn read_routes(&self) -> Result<Routes, PlanFault>
+        ensures { given routes_in result ≡ result_at_flow self.now.number (read_routes_of self.now.routes.now) }
+    {
+        let number = self.number;
+        Routes::read(self.routes).map_err(|fault| PlanRule::Route(fault).at_flow(number))
+    }
+}
+
 // Whether a flow can have that number.
 fn check_number(number: u16) -> Result<(), PlanFault>
     ensures { result ≡ unless (number_fault number) (Ok tt) }
 {
-    if number < 1 || number > 999 {
+    if !(1..=999).contains(&number) {
         return Err(PlanRule::Number.at_flow(number));
     }
     Ok(())
-}
-
-// Whether period and deadline are in range.
-fn check_times(number: u16, period: u16, deadline: u16) -> Result<(), PlanFault>
-    ensures { result ≡ unless (time_fault number period deadline) (Ok tt) }
-{
-    if period < 1 || period > 1024 {
-        return Err(PlanRule::Period.at_flow(number));
-    }
-    if deadline < 1 || deadline > period {
-        return Err(PlanRule::Deadline.at_flow(number));
-    }
-    Ok(())
-}
-
-// A fault in a route, at the flow that the route is of.
-fn at_flow<T>(read: Result<T, RouteFault>, flow: u16) -> Result<T, PlanFault>
-    ensures { result ≡ result_at_flow flow read }
-{
-    match read {
-        Ok(value) => Ok(value),
-        Err(fault) => Err(PlanRule::Route(fault).at_flow(flow)),
-    }
 }

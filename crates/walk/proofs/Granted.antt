@@ -10,9 +10,10 @@ use Rattle.theory.proofs.Lawful.{quick_lawful}
 use Rattle.theory.proofs.Ranked.{ranked_orders}
 use Rattle.walk.specs.declared.short.Short.{Short}
 use Rattle.walk.specs.declared.answer.QuickAnswer.{QuickAnswer}
-use Rattle.walk.specs.declared.answer.QuickAnswer.TheVariants.{Grid, Missed}
+use Rattle.walk.specs.declared.answer.QuickAnswer.TheVariants.{Grid}
 use Rattle.walk.specs.Walking.{Shows}
 use Rattle.walk.specs.Memory.{unless_short}
+use Rattle.walk.specs.Runs.{Lent, short_in, Runs}
 use Rattle.walk.specs.Outcomes.{Keys, order_by, Outcome, grid, miss, outcome_of, quick_outcome, answered, written, grid_after, HandsOver}
 
 -- where a grid is answered, the placements shown are written
@@ -21,23 +22,18 @@ pub grid-written : (o : Outcome) (n : ℕ) (trail room room' : List Placement) �
 grid-written (grid ps) n trail room room' e shown h = h ∙ ap (λ t. t ++ drop (length t) room) shown
 grid-written (miss s) n trail room room' e shown h = absurd (let z : ◌≡◌ {A = ℕ} 0 1 = cc in omega arith)
 
--- where a miss is answered, nothing is
-pub miss-written : (o : Outcome) (s : ℕ) (room : List Placement) → Missed s ≡ answered o → room ≡ written o room
-miss-written (grid ps) s room e = absurd (let z : ◌≡◌ {A = ℕ} 0 1 = cc in omega arith)
-miss-written (miss t) s room e = refl
-
 -- a check that passed found no memory too short
-pub none-short : {A : Type 0} (short : Option Short) (a b : A) → Ok a ≡ unless_short short b → short ≡ None
+none-short : {A : Type 0} (short : Option Short) (a b : A) → Ok a ≡ unless_short short b → short ≡ None
 none-short None a b e = refl
 none-short (Some s) a b e = absurd (let z : ◌≡◌ {A = ℕ} 0 1 = cc in omega arith)
 
 -- the answer of a granted call
-pub granted : (short : Option Short) (o : Outcome) (r : QuickAnswer) → short ≡ None → r ≡ answered o →
+granted : (short : Option Short) (o : Outcome) (r : QuickAnswer) → short ≡ None → r ≡ answered o →
     Ok r ≡ unless_short short (answered o)
 granted short o r e h = ap Ok h ∙ ap (λ s. unless_short s (answered o)) (sym e)
 
 -- the grid's memory after it
-pub granted-grid : (short : Option Short) (o : Outcome) (room room' : List Placement) → short ≡ None → room' ≡ written o room →
+granted-grid : (short : Option Short) (o : Outcome) (room room' : List Placement) → short ≡ None → room' ≡ written o room →
     room' ≡ grid_after short o room
 granted-grid short o room room' e h = h ∙ ap (λ s. grid_after s o room) (sym e)
 
@@ -55,8 +51,21 @@ lawful-answer f key room = go (quick_walk_of f (order_by f key)) refl
     go (missed s) h = tt
 
 -- as the code answers and writes it
-pub granted-lawful : (f : FrameSpec) (key : Keys) (r : QuickAnswer) (room room' : List Placement) →
+granted-lawful : (f : FrameSpec) (key : Keys) (r : QuickAnswer) (room room' : List Placement) →
     r ≡ answered (quick_outcome f key) → room' ≡ written (quick_outcome f key) room → HandsOver f (Ok r) room'
 granted-lawful f key r room room' e h =
     subst (λ a. HandsOver f (Ok a) room') (sym e)
     (subst (λ x. HandsOver f (Ok (answered (quick_outcome f key))) x) (sym h) (lawful-answer f key room))
+
+-- a call that was granted, by its answer and what it wrote
+pub granted_runs : (f : FrameSpec) (key : Keys) (before after : Lent) (u v : Unit {0}) (r : QuickAnswer) →
+    Ok u ≡ unless_short (short_in f before) v → r ≡ answered (quick_outcome f key) →
+    after.grid ≡ written (quick_outcome f key) before.grid → Runs f key before after (Ok r)
+granted_runs f key before after u v r checked e h =
+    let long = none-short (short_in f before) u v checked in
+    record {
+      gives = granted (short_in f before) (quick_outcome f key) r long e;
+      wrote = granted-grid (short_in f before) (quick_outcome f key) before.grid after.grid long h;
+      spared = (tt, tt, tt);
+      lawful = granted-lawful f key r before.grid after.grid e h;
+    }

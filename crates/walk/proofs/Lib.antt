@@ -1,5 +1,5 @@
-pub mod Placing
+pub mod Sorting
 pub mod Slots
 pub mod Entering
-pub mod Walking
+pub mod States
 pub mod Granted

@@ -1,7 +1,7 @@
 -- One slot filled leg by leg.
-use Rattle.std.proofs.Common.{◌≡◌, ℕ, zero, suc, ◌+◌, ◌-◌, ◌<◌, ◌≤◌, Bool, true, false, cond, not, ◌&&◌, List, [], ◌∷◌, ◌++◌, length, get_or, take, drop, set, sym, refl, ap, ◌∙◌, ⊎_elim, append_assoc, append-nil, arith}
+use Rattle.std.proofs.Common.{◌≡◌, ℕ, zero, suc, ◌+◌, ◌-◌, ◌<◌, ◌≤◌, Bool, true, false, cond, not, ◌&&◌, List, [], ◌∷◌, ◌++◌, length, get_or, take, drop, set, sym, refl, ap, ap₂, ◌∙◌, subst, ⊎_elim, append_assoc, append-nil, arith}
 use Rattle.std.specs.List.{ContainsAt as Has}
-use Rattle.std.proofs.lemmas.List.{length-append, take_more, drop_at, take-append-drop, get_or_default, take_all}
+use Rattle.std.proofs.lemmas.List.{length-append, length-take, take_more, drop_at, take-append-drop, get_or_default}
 use Rattle.std.proofs.lemmas.Bool.{lt-ltb, le-ltb}
 use Rattle.frame.specs.declared.placement.Placement.{Placement}
 use Rattle.frame.specs.Frames.{FrameSpec, size_of}
@@ -14,6 +14,7 @@ use Rattle.theory.proofs.Members.{has_cases}
 use Rattle.theory.proofs.Progress.{done_sent_other}
 use Rattle.theory.proofs.Chosen.{has_from-greedy}
 use Rattle.walk.specs.Filling.{apart, placed_at, next_cell, can_join, Ready}
+use Rattle.walk.specs.Walks.{Stand, joined, with_set}
 
 module _ (f : FrameSpec) (p : List ℕ) where
   -- greedy over two lists, one after the other
@@ -178,10 +179,7 @@ module _ (f : FrameSpec) (s : ℕ) (p : List ℕ) (base : List Placement) (legs 
       sent-by true e = sym (sent_push (taken f p legs j) p (get_or legs j 0)) ∙ ap (λ l. sent l p) (sym (by true e))
       sent-by false e = ap (λ l. sent l p) (sym (by false e ∙ append-nil (taken f p legs j)))
 
--- all legs are taken that can be, where the set is full or no leg is left
-pub taken-all : (f : FrameSpec) (p legs : List ℕ) (j : ℕ) → length legs ≤ j → taken f p legs j ≡ greedy f p [] legs
-taken-all f p legs j h = ap (greedy f p []) (take_all j legs h)
-
+-- all legs are taken that can be, where the set is full
 pub taken_full : (f : FrameSpec) (p legs : List ℕ) (j : ℕ) → f.channels ≤ length (taken f p legs j) → taken f p legs j ≡ greedy f p
     [] legs
 taken_full f p legs j h =
@@ -190,39 +188,47 @@ taken_full f p legs j h =
     ∙ ap (λ l. taken f p legs j ++ l) (greedy_full f p (drop j legs) (taken f p legs j) h)
     ∙ append-nil (taken f p legs j))
 
--- after a leg was tried at the trail and the progress so far
-pub tried : (f : FrameSpec) (s : ℕ) (p : List ℕ) (base : List Placement) (legs : List ℕ) → Ready f p legs →
-    (j : ℕ) → j < length legs → length (taken f p legs j) < f.channels →
-    (trail trail' : List Placement) (q q' : List ℕ) (x mark : ℕ) →
-    trail ≡ laid f s p base (taken f p legs j) → q ≡ sent (taken f p legs j) p → x ≡ get_or legs j 0 → mark ≡ length base →
-    trail' ≡ cond (can_join f s q x mark trail) (trail ++ next_cell f s q x mark trail ∷ []) trail →
-    q' ≡ cond (can_join f s q x mark trail) (set q x (done_of q x + 1)) q →
-    (trail' ≡ laid f s p base (taken f p legs (j + 1))) × (q' ≡ sent (taken f p legs (j + 1)) p)
-tried f s p base legs ready j below free trail trail' q q' x mark isTrail isProgress isLeg isMark after after' = (
-  after
-      ∙ ap (λ m. cond (can_join f s q x m trail) (trail ++ next_cell f s q x m trail ∷ []) trail) isMark
-      ∙ ap (λ i. cond (can_join f s q i (length base) trail) (trail ++ next_cell f s q i (length base) trail ∷ []) trail) isLeg
-      ∙ ap (λ o. cond (can_join f s o y (length base) trail) (trail ++ next_cell f s o y (length base) trail ∷ []) trail) isProgress
-      ∙ ap (λ t. cond (can_join f s was y (length base) t) (t ++ next_cell f s was y (length base) t ∷ []) t) isTrail
-      ∙ step.trail _ refl,
-  after'
-      ∙ ap (λ m. cond (can_join f s q x m trail) (set q x (done_of q x + 1)) q) isMark
-      ∙ ap (λ i. cond (can_join f s q i (length base) trail) (set q i (done_of q i + 1)) q) isLeg
-      ∙ ap (λ o. cond (can_join f s o y (length base) trail) (set o y (done_of o y + 1)) o) isProgress
-      ∙ ap (λ t. cond (can_join f s was y (length base) t) (set was y (done_of was y + 1)) was) isTrail
-      ∙ step.progress _ refl,
-)
-  where
-    y : ℕ
-    y = get_or legs j 0
-
-    was : List ℕ
-    was = sent (taken f p legs j) p
-
-    step : More f s p base legs ready j below free
-    step = more f s p base legs ready j below free
-
 -- the trail's length
 pub length-laid : (f : FrameSpec) (s : ℕ) (p : List ℕ) (base : List Placement) (legs : List ℕ) →
     length (laid f s p base legs) ≡ length base + length legs
 length-laid f s p base legs = length-append base (placed_from f s p 0 legs) ∙ ap (λ n. length base + n) (length-placed f p s 0 legs)
+
+-- a walk once the legs taken of the first j are sent
+abbrev pub so_far : ℕ → List ℕ → ℕ → Stand → Stand
+so_far s legs j w = with_set s (taken w.frame w.progress legs j) w
+
+-- its number of placements
+pub length_so_far : (s : ℕ) (legs : List ℕ) (j : ℕ) (w v : Stand) → v ≡ so_far s legs j w →
+    length v.trail ≡ length w.trail + length (taken w.frame w.progress legs j)
+length_so_far s legs j w v e =
+    ap (λ u. length u.trail) e ∙ length-laid w.frame s w.progress w.trail (taken w.frame w.progress legs j)
+
+-- no more legs are taken than were tried
+pub few_taken : (f : FrameSpec) (p legs : List ℕ) (j : ℕ) → length (taken f p legs j) ≤ j
+few_taken f p legs j = let few = length-greedy f p (take j legs) [] in let front = length-take j legs in omega arith
+
+module _ (s : ℕ) (legs : List ℕ) (j : ℕ) (w v : Stand) (ready : Ready w.frame w.progress legs) (below : j < length legs)
+    (free : length v.trail - length w.trail < w.frame.channels) (e : v ≡ so_far s legs j w) where
+  fewer : length (taken w.frame w.progress legs j) < w.frame.channels
+  fewer = let long = length_so_far s legs j w v e in omega arith
+
+  -- the next leg has a next hop
+  pub next_left : (x : ℕ) → x ≡ get_or legs j 0 → done_of v.progress x < size_of v.frame x
+  next_left x isLeg =
+      subst (λ i. done_of v.progress i < size_of v.frame i) (sym isLeg)
+      (subst (λ u. done_of u.progress (get_or legs j 0) < size_of u.frame (get_or legs j 0)) (sym e)
+      (next-left w.frame s w.progress w.trail legs ready j below fewer))
+
+  -- and after it was tried one more leg is
+  pub joined_more : (u : Stand) (mark x : ℕ) → mark ≡ length w.trail → x ≡ get_or legs j 0 → u ≡ joined s mark x v →
+      u ≡ so_far s legs (j + 1) w
+  joined_more u mark x isMark isLeg now =
+      now ∙ ap (joined s mark x) e ∙ ap (λ m. joined s m x (so_far s legs j w)) isMark
+      ∙ ap (λ i. joined s (length w.trail) i (so_far s legs j w)) isLeg
+      ∙ ap₂ made (step.trail _ refl) (step.progress _ refl)
+    where
+      made : List Placement → List ℕ → Stand
+      made t p = record { frame = w.frame; trail = t; marks = w.marks; progress = p }
+
+      step : More w.frame s w.progress w.trail legs ready j below fewer
+      step = more w.frame s w.progress w.trail legs ready j below fewer

@@ -1,6 +1,6 @@
 -- One slot filled, in lent memory.
-use Rattle.std.specs.Prelude.{◌≡◌, ℕ, ◌+◌, ◌-◌, ◌<◌, Bool, true, not, ◌&&◌, List, [], ◌∷◌, map, length, drop}
-use Rattle.std.specs.List.{ContainsAt as Has}
+use Rattle.std.specs.Prelude.{◌≡◌, ℕ, ◌+◌, ◌-◌, ◌<◌, Bool, not, List, map, length, drop}
+use Rattle.std.specs.List.{ContainsAt as Has, list_all}
 use Rattle.frame.specs.declared.hop.Hop.{Hop}
 use Rattle.frame.specs.declared.placement.Placement.{Placement}
 use Rattle.frame.specs.Frames.{FrameSpec, leg_at, size_of, hop_at, leg_count}
@@ -31,8 +31,7 @@ meets a b = clash (hop_of a) (hop_of b)
 
 -- a placement shares no device with any of the others
 abbrev pub apart : Placement → List Placement → Bool
-apart a [] = true
-apart a (b ∷ bs) = not (meets a b) && apart a bs
+apart a bs = list_all (λ b. not (meets a b)) bs
 
 -- the legs of entries
 abbrev pub legs_of : List Ranked → List ℕ

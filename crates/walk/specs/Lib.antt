@@ -5,3 +5,4 @@ pub mod Orders
 pub mod Filling
 pub mod Walking
 pub mod Stacks
+pub mod Walks

@@ -34,10 +34,5 @@ fn share_device(one: &Placement, other: &Placement) -> bool
 pub(crate) fn is_apart(new: &Placement, others: &[Placement]) -> bool
     ensures { result ≡ apart new.now others.now }
 {
-    for other in others {
-        if share_device(new, other) {
-            return false;
-        }
-    }
-    true
+    others.iter().all(|other| !share_device(new, other))
 }

@@ -6,13 +6,13 @@ mod cell;
 mod enter;
 mod fill;
 mod memory;
-mod order;
 mod quick_walk;
 mod rank;
 mod ranked;
 mod run;
 mod short;
 mod stack;
+mod walking;
 
 pub use answer::QuickAnswer;
 pub use quick_walk::quick;

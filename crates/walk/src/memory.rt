@@ -10,12 +10,7 @@ impl Short {
     pub fn position(self) -> u8
         ensures { result ≡ position_of self }
     {
-        match self {
-            Short::Trail => 1,
-            Short::Marks => 2,
-            Short::Progress => 3,
-            Short::Grid => 4,
-        }
+        self as u8
     }
 }
 

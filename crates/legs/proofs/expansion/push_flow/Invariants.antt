@@ -1,14 +1,18 @@
-use Rattle.std.proofs.Common.{◌≡◌, ◌/◌, ◌++◌, map, take, vec_items, vec_capacity}
+use Rattle.std.proofs.Common.{◌≡◌, ◌-◌, ◌/◌, ◌+◌, ◌≤◌, ◌++◌, map, length}
 use Rattle.std.specs.List.{range_with_len, flat_map}
+use Rattle.reserved.specs.Held.{held}
 use Rattle.flow.specs.Flows.{flow_spec}
+use Rattle.frame.specs.declared.memory.TheConstants.{LEGS}
 use Rattle.frame.specs.Legs.{leg_spec}
-use Rattle.legs.specs.Expand.{packet_legs}
+use Rattle.legs.specs.Expand.{flow_legs, packet_legs}
 use Rattle.legs.proofs.expansion.push_flow.Given as goal
 
--- the packets so far stand behind the legs
+-- with the packets that are left, the legs become what they shall be
 abbrev pub invariant-loop-packet : goal.invariant-loop-packet
 invariant-loop-packet l =
-    (map leg_spec (vec_items l.legs)
-    ≡ map leg_spec (vec_items l.initial.legs)
-    ++ flat_map (packet_legs (flow_spec l.flow)) (take l.packet (range_with_len 0 (l.slots / l.flow.period))))
-    × (vec_capacity l.legs ≡ vec_capacity l.initial.legs)
+    let f = flow_spec l.flow in
+    let left = flat_map (packet_legs f) (range_with_len l.packet (l.slots / f.period - l.packet)) in
+    record {
+      ends : map leg_spec (held l.legs) ++ left ≡ map leg_spec (held l.initial.legs) ++ flow_legs l.slots f;
+      room : length (held l.legs) + length left ≤ LEGS;
+    }

@@ -1,10 +1,14 @@
-use Rattle.std.proofs.Common.{◌≡◌, ◌≤◌, take, pos, ◌-ℤ◌, fold}
-use Rattle.ranking.specs.Next.{end_of}
-use Rattle.ranking.specs.Sweep.{met, started}
+use Rattle.std.proofs.Common.{◌≡◌, ◌≤◌, drop, fold}
+use Rattle.ranking.specs.Sweep.{least_slack_of, met}
 use Rattle.ranking.proofs.sweep.least_slack.Given as goal
 
+-- the visits that are left take the pass to what it finds over all
 abbrev pub invariant-loop-visit : goal.invariant-loop-visit
 invariant-loop-visit l =
-    (l.sweep ≡ fold (met l.slot (end_of l.hop) l.progress) (started (end_of l.hop -ℤ pos l.slot))
-    (take l.visit-index l.visits))
-    × (l.sweep.count ≤ l.visit-index)
+    let s = l.moment.slot in
+    let d = l.hop.end in
+    let p = l.moment.progress.now in
+    record {
+      ends : (fold (met s d p) l.sweep (drop l.visit-index l.visit-items)).best ≡ least_slack_of s d p l.visit-items;
+      few : l.sweep.count ≤ l.visit-index;
+    }

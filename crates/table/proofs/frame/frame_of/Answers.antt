@@ -1,16 +1,14 @@
-use Rattle.std.proofs.Common.{◌+◌, map, take, sym, ap, ◌∙◌, subst, le_trans, arith}
+use Rattle.std.proofs.Common.{◌+◌, map, take, sym, ap, ◌∙◌, subst, le_trans}
 use Rattle.std.proofs.lemmas.List.{take_all}
 use Rattle.flow.specs.Flows.{flow_spec}
 use Rattle.table.specs.Frame.{common, LeastCommonMultiple}
 use Rattle.table.proofs.Frames.{least-take, least_more, flows-more, common_push, frame_is}
 use Rattle.table.proofs.frame.frame_of.Goals as goal
 
-pub lcm-slots-requires : goal.lcm-slots-requires
-lcm-slots-requires c =
-    let f = c.flow-item.result in
+pub lcm-slots-requires-clause-few : goal.lcm-slots-requires-clause-few
+lcm-slots-requires-clause-few c =
     let l = c.loop-flow in
-    let short = le_trans (least-take l.slots l.flow-index c.args.flows.now l.invariant) c.requires in
-    record { some = (l.invariant.some, omega (arith, f.timed, f.prompt)); few = (short, f.regular) }
+    (le_trans (least-take l.slots l.flow-index c.args.flows.now l.invariant) c.requires, c.flow-item.result.regular)
 
 pub loop-flow-preserved : goal.loop-flow-preserved
 loop-flow-preserved c =
@@ -22,10 +20,10 @@ loop-flow-preserved c =
     (λ n. ap (common n) (flows-more fs i f c.loop-flow-test.true c.flow-item.is) ∙ common_push n (flow_spec f) front)
     c.loop-flow.invariant c.lcm-slots.ensures
 
-pub returns : goal.returns
-returns c =
+pub returns-clause-value : goal.returns-clause-value
+returns-clause-value c =
     let fs = c.args.flows.now in
     let least =
     subst (λ l. LeastCommonMultiple c.loop-flow.slots (map flow_spec l))
     (take_all c.loop-flow.flow-index fs c.loop-flow-test.false) c.loop-flow.invariant in
-    record { value = sym (frame_is c.loop-flow.slots (map flow_spec fs) least); least = least }
+    sym (frame_is c.loop-flow.slots (map flow_spec fs) least)

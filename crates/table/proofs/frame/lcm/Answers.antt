@@ -1,5 +1,5 @@
 use Rattle.std.proofs.Common.{◌≡◌, ℕ, ◌+◌, ◌-◌, ◌*◌, ◌%◌, ◌<◌, ◌≤◌, ap, ◌∙◌, mul-le-mul, mul-pos, arith}
-use native.Mathlib.Nat.{dvd_of_mod-eq-zero, dvd-sub, le_of_dvd, mod_self, add-mod_right, mul-mod_left, mul-mod_right}
+use native.Mathlib.Nat.{dvd_of_mod-eq-zero, dvd-sub, le_of_dvd, add-mod_right, mul-mod_left, mul-mod_right}
 use Rattle.table.proofs.frame.lcm.Goals as goal
 
 -- multiples of a are a apart
@@ -21,11 +21,6 @@ within c =
     let a = c.args.a in
     let b = c.args.b in
     next c (a * b) (mul-pos c.requires.some.0 c.requires.some.1) (mul-mod_right a b) (mul-mod_left a b)
-
-pub loop-m-init : goal.loop-m-init
-loop-m-init c =
-    let a = c.args.a in
-    (c.requires.some.0, mod_self a, λ k from of-a _. le_of_dvd from (dvd_of_mod-eq-zero a of-a))
 
 pub overflow_add-m : goal.overflow_add-m
 overflow_add-m c =

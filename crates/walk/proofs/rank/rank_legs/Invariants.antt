@@ -1,11 +1,14 @@
-use Rattle.std.proofs.Common.{◌≡◌, ◌+◌, ◌-◌, ◌≤◌, take}
+use Rattle.std.proofs.Common.{◌≡◌}
 use Rattle.frame.specs.Frames.{frame_spec}
-use Rattle.walk.specs.Orders.{entries_from}
+use Rattle.frame.specs.States.{released}
+use Rattle.walk.specs.Stacks.{entries, room_of}
+use Rattle.walk.proofs.Sorting.{listed}
 use Rattle.walk.proofs.rank.rank_legs.Given as goal
 
 abbrev pub invariant-loop-leg : goal.invariant-loop-leg
-invariant-loop-leg g l =
-    (l.count + l.leg ≤ l.legs)
-    × (take l.count l.order
-    ≡ entries_from (frame_spec l.frame) (g.R.Ranking.key l.ranking (frame_spec l.frame) l.slot l.progress)
-    l.slot l.progress l.leg (l.legs - l.leg))
+invariant-loop-leg g l = record {
+  ranked :
+      entries l.ranked ≡ listed (g.R.Ranking.key l.ranking (frame_spec l.moment.frame.now) l.moment.slot l.moment.progress.now)
+      (released (frame_spec l.moment.frame.now) l.moment.slot l.moment.progress.now) l.leg;
+  whole : room_of l.ranked ≡ room_of l.initial.ranked;
+}

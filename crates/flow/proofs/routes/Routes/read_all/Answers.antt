@@ -7,7 +7,7 @@ use Rattle.flow.proofs.routes.Routes.read_all.Goals as goal
 
 pub loop-rest-init : goal.loop-rest-init
 loop-rest-init c =
-    begins c.args.bytes.now c.in_ok-first.first c.one-routes.result
+    begins c.args.bytes.now c.as_slice.result.now c.in_ok-first.first c.one-routes.result c.as_slice.ensures.value
     c.in_ok-first.ensures c.one-routes.ensures.count c.one-routes.ensures.value
 
 pub returns-in_err-route : goal.returns-in_err-route
@@ -19,16 +19,17 @@ returns-in_err-route c =
     ∙ more_refused (routes_in rs) c.loop-rest.rest.now (sym c.loop-rest-test.ensures) (3 - rs.count) (3 - (rs.count + 1))
     c.in_err-route.field-0.0 (omega arith) (sym c.in_err-route.ensures)))
 
-pub with-routes-requires : goal.with-routes-requires
-with-routes-requires c =
+pub with-routes-requires-clause-ends : goal.with-routes-requires-clause-ends
+with-routes-requires-clause-ends c =
     let sofar = routes_in c.loop-rest.routes in
     let ds = devices_in c.in_ok-route.route in
     let w = next-within sofar c.loop-rest.rest.now ds (sym c.in_ok-route.ensures) in
-    record { room = omega arith; ends = agree_more (length sofar + 1) sofar ds c.loop-rest.routes.ends w.2 }
+    agree_more (length sofar + 1) sofar ds c.loop-rest.routes.ends w.2
 
 pub loop-rest-preserved : goal.loop-rest-preserved
 loop-rest-preserved c =
-    goes_on c.loop-rest.rest.now c.in_ok-route.route c.loop-rest.routes c.with-routes.result
+    goes_on c.loop-rest.rest.now c.as_slice-in-loop-rest.result.now c.in_ok-route.route c.loop-rest.routes
+    c.with-routes.result c.as_slice-in-loop-rest.ensures.value
     (sym c.loop-rest-test.ensures) (omega arith)
     c.in_ok-route.ensures c.with-routes.ensures.count c.with-routes.ensures.value
     ∙ c.loop-rest.invariant

@@ -10,6 +10,6 @@ returns c =
     let p = c.args.self.now in
     record {
       value = refl;
-      law = λ j f. ∥∥₁_elim p.framed (frame-set _ _)
+      law = λ j f. ∥∥₁_elim p.suited (frame-set _ _)
           (λ is. is ∙ ap (λ fs. frame_of fs p.map.bits) f.inforce ∙ ap (frame_of (standing j).flows) f.allowed);
     }

@@ -1,0 +1,10 @@
+use Rattle.answer.proofs.Pages.{grows-grows}
+use Rattle.answer.proofs.page.Page.answer.Goals as goal
+
+pub returns-in-Ok : goal.returns-in-Ok
+returns-in-Ok c = rw c.in-Ok.is (grows-grows c.number.ensures.grows c.text.ensures)
+
+pub returns-in-Err : goal.returns-in-Err
+returns-in-Err c = rw c.in-Err.is
+    (grows-grows c.number.ensures.grows
+    (grows-grows c.text-in-Err.ensures (grows-grows c.refusal.ensures.grows c.text-in-Err-2.ensures)))

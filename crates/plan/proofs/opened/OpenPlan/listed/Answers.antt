@@ -1,6 +1,0 @@
-use Rattle.std.proofs.Common.{◌∙◌}
-use Rattle.plan.proofs.Following.{list_same}
-use Rattle.plan.proofs.opened.OpenPlan.listed.Goals as goal
-
-pub returns : goal.returns
-returns c = λ j f. c.len.ensures.value ∙ list_same f
