@@ -4,7 +4,8 @@ ghost use Rattle.answer.specs.Page.{Grows};
 
 use crate::refusal::Refusal;
 
-// Lent memory that is written from the front on. Text that no longer fits is only counted.
+// Lent memory that is written from the front on. Text that no longer fits is only counted, so that an answer of any length
+// can be measured first.
 // Numbers are printed here and not by `write!`: that promises its bytes only where it gives `Ok`, and never promises `Ok`.
 #[derive(Drop)]
 pub(crate) struct Page<'a> {

@@ -30,7 +30,7 @@ pub struct ConsoleFault {
 }
 
 // A line whose call was granted, by its number.
-// The line stands here and in `ConsoleFault` too: a fault goes up by `?` with the line that the console adds to it.
+// Granted and refused each carry the line, and no struct beside a `Result` does: a fault goes up by `?` with its line.
 #[derive(Clone, Copy, Debug, PartialEq, Eq)]
 pub struct Granted {
     pub line: u32,

@@ -25,8 +25,8 @@ impl Console {
         })
     }
 
-    // The console goes by value, here and in `finish`, as a plan does where it is frozen.
     // Takes one more byte. A newline ends the line, and the reply to it comes with the console.
+    // The console goes by value, here and in `finish`, as a plan does where it is frozen.
     pub fn receive(mut self, byte: u8) -> (Console, Option<Result<Granted, ConsoleFault>>)
         ensures { (k : Book) → Keeps k self → Keeps (received byte k) result.0 × (result.1 ≡ reply byte k) }
     {

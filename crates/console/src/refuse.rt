@@ -7,8 +7,7 @@ use answer::Refusal;
 use flow::RouteFault;
 use table::{PlanFault, PlanRule};
 
-// This and the next are functions and not `From`: neither of the two types is of this crate.
-// What a fault in a route of that flow says.
+// What a fault in a route of that flow says. No `From`, here and below: neither type is of this crate.
 fn route_refusal(flow: u16, fault: RouteFault) -> Refusal
     ensures { result ≡ route_refusal_of flow fault }
 {
@@ -49,8 +48,7 @@ fn plan_refusal(fault: PlanFault) -> Refusal
     Refusal {
         number,
         flow,
-        route: 0,
-        position: 0,
+        ..Refusal::default()
     }
 }
 
@@ -72,15 +70,12 @@ impl From<ConsoleRule> for Refusal {
             ConsoleRule::Plan(fault) => plan_refusal(fault),
             ConsoleRule::Memory => Refusal {
                 number: 21,
-                flow: 0,
-                route: 0,
                 position: 6,
+                ..Refusal::default()
             },
             ConsoleRule::Unreadable => Refusal {
                 number: 22,
-                flow: 0,
-                route: 0,
-                position: 0,
+                ..Refusal::default()
             },
         }
     }

@@ -6,15 +6,15 @@ use Rattle.flow.specs.Outcomes.{unless, and_then}
 abbrev pub checked : {E : Type 0} → Option E → Result (Unit {0}) E
 checked o = unless o (Ok tt)
 
--- a check that passed lets any result through
-pub unless-passed : {A E : Type 0} (o : Option E) (u : Unit {0}) (r : Result A E) → Ok u ≡ checked o → unless o r ≡ r
-unless-passed None u r e = refl
-unless-passed (Some f) u r e = absurd (grind arith)
+-- a check that let a value through lets any result through
+pub unless-passed : {A B E : Type 0} (o : Option E) (x y : A) (r : Result B E) → Ok y ≡ unless o (Ok x) → unless o r ≡ r
+unless-passed None x y r e = refl
+unless-passed (Some f) x y r e = absurd (grind arith)
 
--- a check that refused refuses any result
-pub unless_refused : {A E : Type 0} (o : Option E) (f : E) (r : Result A E) → Err f ≡ checked o → unless o r ≡ Err f
-unless_refused None f r e = absurd (grind arith)
-unless_refused (Some g) f r e = let same : g ≡ f = cc in cc
+-- a check that refused a value refuses any result
+pub unless_refused : {A B E : Type 0} (o : Option E) (x : A) (f : E) (r : Result B E) → Err f ≡ unless o (Ok x) → unless o r ≡ Err f
+unless_refused None x f r e = absurd (grind arith)
+unless_refused (Some g) x f r e = let same : g ≡ f = cc in cc
 
 -- what gives a value in two steps gives one in the first
 pub then_ok : {A B E : Type 0} (r : Result A E) (f : A → Result B E) (y : B) → and_then r f ≡ Ok y → (x : A) × (r ≡ Ok x) × (f x ≡ Ok y)

@@ -1,6 +1,7 @@
 -- The loop over the routes in the bytes.
 use Rattle.std.proofs.Common.{◌≡◌, ℕ, zero, suc, ◌+◌, ◌-◌, ◌<◌, Bool, true, false, cond, ◌&&◌, eqb, ltb, leb, List, [], ◌∷◌, ◌++◌, length, take, drop, Some, None, Ok, Err, sym, refl, ap, ◌∙◌, arith, length-drop, length-take}
 use Rattle.std.proofs.lemmas.List.{take_rest}
+use Rattle.std.proofs.lemmas.List.Recursion.{and_push}
 use Rattle.std.proofs.lemmas.Bool.{cond-true, cond-false, and_parts, and_from, ltb-true}
 use Rattle.flow.specs.declared.fault.RouteFault.{RouteFault}
 use Rattle.flow.specs.declared.fault.RouteFault.TheVariants.{Shape, Ends}
@@ -57,19 +58,13 @@ ends_same k one ds e = go (eqb (first_of one) (first_of ds)) (eqb (last_of one) 
     go true false h = absurd (grind arith)
     go false b h = absurd (grind arith)
 
--- with one more route that has its ends, all routes still have the ends of the first
-agree_push : (one : List ℕ) (more : List (List ℕ)) (ds : List ℕ) → ends_agree one more ≡ true → same_ends_of one ds ≡ true →
-    ends_agree one (more ++ ds ∷ []) ≡ true
-agree_push one [] ds a s = and_from (same_ends_of one ds) true s refl
-agree_push one (e ∷ es) ds a s =
-    let parts = and_parts (same_ends_of one e) (ends_agree one es) a in
-    and_from (same_ends_of one e) (ends_agree one (es ++ ds ∷ [])) parts.0 (agree_push one es ds parts.1 s)
-
 -- the routes still agree with one more whose ends are no fault
 pub agree_more : (k : ℕ) (sofar : List (List ℕ)) (ds : List ℕ) → all_agree sofar ≡ true → ends_after k sofar ds ≡ None →
     all_agree (sofar ++ ds ∷ []) ≡ true
 agree_more k [] ds a e = refl
-agree_more k (one ∷ more) ds a e = agree_push one more ds a (ends_same k one ds e)
+agree_more k (one ∷ more) ds a e =
+    and_push (ends_agree one) (same_ends_of one) refl (λ x xs. refl) more ds
+    ∙ and_from (ends_agree one more) (same_ends_of one ds) a (ends_same k one ds e)
 
 -- at the end of the bytes, the routes so far are all
 pub more-end : (left : ℕ) (sofar : List (List ℕ)) (bytes : List ℕ) → eqb (length bytes) 0 ≡ true → read_more left sofar bytes ≡ Ok sofar

@@ -5,8 +5,8 @@ ghost use Rattle.flow.specs.Views.{devices_in};
 use crate::route::Route;
 
 // The routes of one flow: one to three, all with the same first and the same last device.
-// Places of `list` past `count` mean nothing. An array with a count, since flows are copied and allocate nothing, and a
-// list of any type in fixed memory would owe a bound on its size at every call.
+// Places of `list` past `count` mean nothing. An array with a count: flows are copied and allocate nothing, and a
+// generic struct cannot hold an array of a type parameter.
 #[derive(Clone, Copy)]
 pub struct Routes {
     pub list: [Route; 3],

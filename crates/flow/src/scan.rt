@@ -20,7 +20,7 @@ pub(crate) fn first_repeat(devices: &[u8]) -> Option<usize>
     ensures value { result ≡ first_repeat_of devices.now }
     ensures below { IfSome result (λ i. i < length devices.now) }
 {
-    // nested loops that a label leaves: the form that the rules name for this search
+    // nested loops that a label leaves: a form that the project fixes for this search
     let mut found = None;
     'search: for later in 0..devices.len() {
         for earlier in 0..later {

@@ -6,7 +6,7 @@ use Rattle.frame.specs.declared.leg.Leg.{Leg}
 use Rattle.frame.specs.Below.{all_below, some_below}
 use Rattle.frame.proofs.Scans.{all-enumerated, some-enumerated}
 use Rattle.frame.specs.Legs.{LegSpec, leg_spec}
-use Rattle.frame.specs.Frames.{FrameSpec, no_leg, leg_at, leg_count, size_of}
+use Rattle.frame.specs.Frames.{FrameSpec, no_leg, leg_at, leg_count}
 
 -- a leg has `count` hops
 pub leg-size : (l : Leg) → length (leg_spec l).hops ≡ l.count
@@ -21,10 +21,6 @@ module _ (f : FrameSpec) (legs : List Leg) (seen : map leg_spec legs ≡ f.legs)
   -- the frame's leg at i
   pub frame-leg : (i : ℕ) (x : Leg) → i < length legs → x ≡ get_or legs i x → leg_at f i ≡ leg_spec x
   frame-leg i x h is = ap (λ ls. get_or ls i no_leg) (sym seen) ∙ leg_at_lem legs i x h is
-
-  -- the number of its hops
-  pub frame-size : (i : ℕ) (x : Leg) → i < length legs → x ≡ get_or legs i x → size_of f i ≡ x.count
-  frame-size i x h is = ap (λ l. length l.hops) (frame-leg i x h is) ∙ leg-size x
 
   -- as many legs
   pub frame-count : leg_count f ≡ length legs

@@ -8,3 +8,4 @@ pub mod Sets
 pub mod Quick
 pub mod Visits
 pub mod Grids
+pub mod Moments

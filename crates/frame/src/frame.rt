@@ -5,7 +5,8 @@ ghost use Rattle.frame.specs.Visits.{visit_table, visit_starts};
 
 use crate::memory::FrameMemory;
 
-// One frame: its legs, at most 2,048, in the memory that is kept for them, its slots, and the number of channels.
+// One frame: its legs, at most 2,048, in the memory that is kept for them, its slots, and the number of channels. The last two
+// are plain numbers with their bounds as invariants: each use reads them as numbers.
 pub struct Frame {
     pub(crate) memory: FrameMemory,
     pub(crate) slots: u16,

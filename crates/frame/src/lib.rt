@@ -22,4 +22,5 @@ pub use lifetime::Lifetime;
 pub use memory::{FrameMemory, LEGS};
 pub use moment::Moment;
 pub use placement::Placement;
+pub use states::done;
 pub use visit::Visit;

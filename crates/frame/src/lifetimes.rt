@@ -1,5 +1,5 @@
 ghost use Rattle.std.specs.Prelude.{◌≡◌, ◌<◌, ◌≤◌};
-ghost use Rattle.frame.specs.Frames.{frame_spec};
+ghost use Rattle.frame.specs.Moments.{at_moment};
 ghost use Rattle.frame.specs.Legs.{leg_spec};
 ghost use Rattle.frame.specs.Reads.{leg_lifetime, lifetime_of};
 
@@ -28,11 +28,11 @@ impl Leg {
 impl Moment<'_> {
     // The lifetime of a hop of a leg, where it is an undone hop of a state.
     pub fn lifetime(self, leg: usize, hop: usize) -> Option<Lifetime>
-        ensures { result ≡ lifetime_of (frame_spec self.entry.frame.now) self.entry.slot self.entry.progress.now leg hop }
+        ensures { result ≡ at_moment lifetime_of self.entry leg hop }
     {
         let found = self.frame.legs().get(leg)?;
         let done = self.done(leg) as usize;
-        if !self.is_state() || hop < done || hop >= found.count as usize {
+        if !self.is_state() || !(done..found.count as usize).contains(&hop) {
             return None;
         }
         Some(found.lifetime(self.slot, done, hop))

@@ -12,7 +12,7 @@ use std::alloc::{AllocError, Global};
 impl FrameMemory {
     // Reserves the memory of one frame.
     pub fn new(heap: Global) -> Result<FrameMemory, AllocError>
-        ensures { IfOk result (λ m. held m.legs ≡ []) }
+        ensures { IfOk result (λ m. (held m.legs ≡ []) × (held m.visits ≡ []) × (held m.starts ≡ [])) }
     {
         Ok(FrameMemory {
             legs: Reserved::new(heap)?,

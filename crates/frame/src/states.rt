@@ -1,4 +1,5 @@
 ghost use Rattle.std.specs.Prelude.{◌≡◌};
+ghost use Rattle.frame.specs.Moments.{at_moment};
 ghost use Rattle.frame.specs.Frames.{frame_spec};
 ghost use Rattle.frame.specs.Legs.{leg_spec};
 ghost use Rattle.frame.specs.Reads.{leg_complete, leg_released, leg_late};
@@ -34,17 +35,24 @@ impl Leg {
     }
 }
 
+// The number of hops of a leg that are done.
+pub fn done(progress: &[u8], leg: usize) -> u8
+    ensures { result ≡ done_of progress.now leg }
+{
+    progress.get(leg).copied().unwrap_or(0)
+}
+
 impl Moment<'_> {
     // The number of hops of a leg that are done.
     pub fn done(self, leg: usize) -> u8
         ensures { result ≡ done_of self.entry.progress.now leg }
     {
-        self.progress.get(leg).copied().unwrap_or(0)
+        done(self.progress, leg)
     }
 
     // Whether the next hop of a leg is released: it is undone, and the leg's release has come.
     pub fn is_released(self, leg: usize) -> bool
-        ensures { result ≡ released (frame_spec self.entry.frame.now) self.entry.slot self.entry.progress.now leg }
+        ensures { result ≡ at_moment released self.entry leg }
     {
         let done = self.done(leg);
         let found = self.frame.legs().get(leg);
@@ -61,7 +69,7 @@ impl Moment<'_> {
 
     // Whether some undone hop cannot be in time.
     pub fn is_overdue(self) -> bool
-        ensures { result ≡ overdue (frame_spec self.entry.frame.now) self.entry.slot self.entry.progress.now }
+        ensures { result ≡ at_moment overdue self.entry }
     {
         let mut legs = self.frame.legs().iter().enumerate();
         legs.any(|(i, leg)| leg.is_late(self.slot, self.done(i)))
@@ -81,8 +89,8 @@ impl Moment<'_> {
 
     // Whether it is a state: a slot of the frame or one past it, and a progress that fits.
     pub fn is_state(self) -> bool
-        ensures { result ≡ is_state_at (frame_spec self.entry.frame.now) self.entry.slot self.entry.progress.now }
+        ensures { result ≡ at_moment is_state_at self.entry }
     {
-        self.slot >= 1 && self.slot <= self.frame.slots + 1 && self.fits()
+        (1..=self.frame.slots + 1).contains(&self.slot) && self.fits()
     }
 }

@@ -3,7 +3,8 @@ ghost use Rattle.std.specs.Iterator.{YieldsFirstRef, item_count};
 ghost use Rattle.line.specs.Grammar.{split_at, is_empty};
 ghost use Rattle.line.specs.Left.{left};
 
-// The pieces of a text that are still to be read; between two pieces stands one separator.
+// The pieces of a text that are still to be read; between two pieces stands one separator. Not the library's split, whose
+// type would carry a closure through every function that reads fields.
 #[derive(Drop)]
 pub(crate) struct Pieces<'a> {
     // None once the last piece was read

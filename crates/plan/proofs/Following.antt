@@ -58,11 +58,11 @@ module _ {j : Journal} {flows : List FlowSpec} {map : ChannelMap} {changes : Lis
 
   -- where the list is full the journal refuses
   pub room_refused : (flow : Option ℕ) (c : Change) (e : PlanFault) → Err e ≡ checked (full_fault flow changes) → noted flow c j ≡ Err e
-  room_refused flow c e h = unless_refused (list_fault flow j.listed) e _ (h ∙ full_same flow)
+  room_refused flow c e h = unless_refused (list_fault flow j.listed) tt e _ (h ∙ full_same flow)
 
   -- where it is not the journal lists the change
   pub room-passed : (flow : Option ℕ) (c : Change) (u : Unit {0}) → Ok u ≡ checked (full_fault flow changes) → noted flow c j ≡ Ok (more c j)
-  room-passed flow c u h = unless-passed (list_fault flow j.listed) u _ (h ∙ full_same flow)
+  room-passed flow c u h = unless-passed (list_fault flow j.listed) tt u _ (h ∙ full_same flow)
 
   -- the journal's answer to an admit goes by the plan's own flows
   pub called-admit : (n p d : ℕ) (bytes : List ℕ) (r : Result FlowSpec PlanFault) → vetted n p d bytes flows ≡ r →
@@ -75,14 +75,10 @@ module _ {j : Journal} {flows : List FlowSpec} {map : ChannelMap} {changes : Lis
   retire_same : (n : ℕ) → checked (retire_fault n flows) ≡ checked (retire_fault n (standing j).flows)
   retire_same n = ap (λ fs. checked (retire_fault n fs)) f.inforce
 
-  -- where a flow cannot be retired the journal refuses
-  pub retire_refused : (n : ℕ) (e : PlanFault) → Err e ≡ checked (retire_fault n flows) → called (retire n) j ≡ Err e
-  retire_refused n e h = unless_refused (retire_fault n (standing j).flows) e _ (h ∙ retire_same n)
-
-  -- where it can the journal lists the change, if there is a place
+  -- where a flow can be retired the journal lists the change, if there is a place
   pub retire-passed : (n : ℕ) (u : Unit {0}) → Ok u ≡ checked (retire_fault n flows) →
       called (retire n) j ≡ noted (Some n) (removes n) j
-  retire-passed n u h = unless-passed (retire_fault n (standing j).flows) u _ (h ∙ retire_same n)
+  retire-passed n u h = unless-passed (retire_fault n (standing j).flows) tt u _ (h ∙ retire_same n)
 
   -- without its change list the plan follows the settled journal
   pub follows_settle : Follows (record { settled = j.settled ++ j.listed; listed = [] }) flows map []

@@ -1,5 +1,5 @@
 -- What a plan answers to a call, by what the journal says of it.
-use Rattle.std.proofs.Common.{◌≡◌, ℕ, List, IsErrAnd, Some, None, Ok, Err, Option, Result, sym, refl, ap, ◌∙◌, subst, arith}
+use Rattle.std.proofs.Common.{◌≡◌, ℕ, List, IsErrAnd, Some, None, Ok, Err, Option, Result, sym, ap, ◌∙◌, subst, arith}
 use Rattle.reserved.specs.Held.{held}
 use mathlib.Core.Logic.{∥∥₁_map}
 use Rattle.flow.specs.Flows.{FlowSpec}
@@ -16,20 +16,10 @@ use Rattle.plan.specs.Follows.{Follows, Sound}
 use Rattle.plan.specs.Plans.{After, Obeys}
 use Rattle.plan.proofs.Following.{more, full_fault, room-passed, room_refused}
 
--- a fault that was due instead of a value is the fault of any result
-pub value_refused : {A B E : Type 0} (o : Option E) (x : A) (e : E) (r : Result B E) → Err e ≡ unless o (Ok x) → unless o r ≡ Err e
-value_refused None x e r h = absurd (grind arith)
-value_refused (Some g) x e r h = let same : g ≡ e = cc in cc
-
 -- a value that was let through is the one given
 pub value_same : {A E : Type 0} (o : Option E) (x y : A) → Ok y ≡ unless o (Ok x) → y ≡ x
 value_same None x y h = cc
 value_same (Some g) x y h = absurd (grind arith)
-
--- what lets a value through lets any result through
-pub value_passed : {A B E : Type 0} (o : Option E) (x y : A) (r : Result B E) → Ok y ≡ unless o (Ok x) → unless o r ≡ r
-value_passed None x y r h = refl
-value_passed (Some g) x y r h = absurd (grind arith)
 
 module _ {P : Type 0} {phase : Ghosts P} (before : Plan P phase) where
   -- r is the answer of the journal that the plan follows, and these follow the journal after the call

@@ -69,7 +69,7 @@ impl OpenPlan {
         ensures kept { Spares result self.old self.new }
         ensures law { Obeys undo self.old self.new result }
     {
-        // looked at first, so that a refusal leaves the plan as it was, all of it
+        // looked at first: that a `pop` of nothing leaves the plan as it was, all of it, was tried and did not prove
         let newest = self.changes.last().ok_or(PlanRule::Nothing)?;
         self.changes.pop();
         match newest {

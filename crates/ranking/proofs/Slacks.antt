@@ -11,14 +11,14 @@ use Rattle.frame.specs.Frames.{FrameSpec, no_leg, leg_at, leg_count, size_of}
 use Rattle.frame.specs.Legs.{LegSpec, all_due_by, hop_total}
 use Rattle.frame.specs.States.{HopId, hop_id, is_state_at, fits, done_of, undone, released, first, last, post, late, overdue}
 use Rattle.frame.specs.Sets.{next_hop}
-use Rattle.frame.specs.Visits.{visits_from, visits_at}
+use Rattle.frame.specs.Visits.{end_of, visits_from, visits_at}
 use Rattle.frame.proofs.Scans.{some-hit}
 use Rattle.ranking.specs.declared.hops.NextHop.{NextHop}
 use Rattle.ranking.specs.Next.{hop_of, is_ready_leg, released_hop_of}
 use Rattle.ranking.specs.declared.sweep.Sweep.{Sweep}
 use Rattle.ranking.specs.Bounds.{LaxityBounds}
 use Rattle.ranking.specs.Laxity.{undone_at, first_of, last_of, ends_at, slack, plain_laxity, conflict_laxity, conflict_aware}
-use Rattle.ranking.specs.Sweep.{visit_undone, visit_first, visit_last, passed, met, started, least_slack_of}
+use Rattle.ranking.specs.Sweep.{visit_undone, visit_first, passed, met, started, least_slack_of}
 use Rattle.ranking.proofs.Next.{next-leg, next-undone, next_open}
 use Rattle.ranking.proofs.Members.{In, in_map, map_in, in_kept, kept_in, count-some}
 use Rattle.ranking.proofs.Least.{least_is}
@@ -50,12 +50,12 @@ module _ (f : FrameSpec) (s : ℕ) (p : List ℕ) (i : ℕ) (free : released f s
   abbrev found : ℤ
   found = least_slack_of s end p visits
 
-  low : Low (visit_undone p) timely visit_last s (started (plain_laxity f s p i)) visits found
-  low = pass_low (visit_undone p) timely visit_last s visits (started (plain_laxity f s p i))
+  low : Low (visit_undone p) timely end_of s (started (plain_laxity f s p i)) visits found
+  low = pass_low (visit_undone p) timely end_of s visits (started (plain_laxity f s p i))
       (rising_sort (visits_from from 0 f.legs)) (λ b none. no_some (sym none))
 
-  reached : Reached (visit_undone p) timely visit_last s (started (plain_laxity f s p i)) visits found
-  reached = pass_reached (visit_undone p) timely visit_last s visits (started (plain_laxity f s p i))
+  reached : Reached (visit_undone p) timely end_of s (started (plain_laxity f s p i)) visits found
+  reached = pass_reached (visit_undone p) timely end_of s visits (started (plain_laxity f s p i))
       (rising_sort (visits_from from 0 f.legs)) (λ b none. no_some (sym none))
 
   -- the hops whose ends count
@@ -112,8 +112,8 @@ module _ (f : FrameSpec) (s : ℕ) (p : List ℕ) (i : ℕ) (free : released f s
           (low.1 (seen_as f p from of.0) v.0
           (v.1, or_left (timely (seen_as f p from of.0)) false c.1))
 
-      at : (y : Visit) → In y visits → Counts (visit_undone p) timely visit_last s (started (plain_laxity f s p i)) y →
-          In (((visit_last y -ℤ pos s) +ℤ pos 1) -ℤ pos (0 + count_by (λ v. visit_undone p v && le_z (visit_last v) (visit_last y)) visits))
+      at : (y : Visit) → In y visits → Counts (visit_undone p) timely end_of s (started (plain_laxity f s p i)) y →
+          In (((end_of y -ℤ pos s) +ℤ pos 1) -ℤ pos (0 + count_by (λ v. visit_undone p v && le_z (end_of v) (end_of y)) visits))
           (map (slack f s p from) (ends_at f s p from end))
       at y y-in c =
           let of = visit_hop f p from y y-in c.0 in
@@ -122,7 +122,7 @@ module _ (f : FrameSpec) (s : ℕ) (p : List ℕ) (i : ℕ) (free : released f s
           let same : timely (seen_as f p from of.0) ≡ true = ap timely (sym of.2) ∙ yes in
           subst (λ (z : ℤ). In z (map (slack f s p from) (ends_at f s p from end)))
           (slack-visits f p from s (last_of f of.0)
-          ∙ ap (λ v. slack_over (visit_undone p) timely visit_last s 0 visits (visit_last v)) (sym of.2))
+          ∙ ap (λ v. slack_over (visit_undone p) timely end_of s 0 visits (end_of v)) (sym of.2))
           (of_slack of.0 of.1 (and_from (leb s (first_of f s p of.0)) (le_z (pos (first_of f s p of.0)) end)
           (le-leb s (first_of f s p of.0) (omega arith)) same))
 
@@ -161,7 +161,7 @@ laxity_of_hop f s p i h r e found = go (is_ready_leg f s p i) refl e
 pub met_count : (s : ℕ) (d : ℤ) (p : List ℕ) (w : Sweep) (v : Visit) → (met s d p w v).count ≤ w.count + 1
 met_count s d p w v = go (visit_undone p v)
   where
-    go : (b : Bool) → (cond b (passed s (le_z (pos (visit_first s p v)) d) (visit_last v) w) w).count ≤ w.count + 1
+    go : (b : Bool) → (cond b (passed s (le_z (pos (visit_first s p v)) d) (end_of v) w) w).count ≤ w.count + 1
     go true = omega arith
     go false = omega arith
 
@@ -216,10 +216,10 @@ laxity_bounds f s p i short timely light calm = go (is_state_at f s p && release
               let of = visit_hop f p (from f s p i free) y y-in c.0 in
               let hop = in_undone f p (from f s p i free) of.0 of.1 in
               let ends = in_time f s p calm of.0.leg of.0.place hop.0 hop.1 hop.2 in
-              let few = count_by-le-length (λ v. visit_undone p v && le_z (visit_last v) (visit_last y)) (visits f s p i free) in
+              let few = count_by-le-length (λ v. visit_undone p v && le_z (end_of v) (end_of y)) (visits f s p i free) in
               subst (λ (z : ℤ). negsuc 2046 ≤ℤ z) (sym e)
-              (low_end (visit_last y) (count_by (λ v. visit_undone p v && le_z (visit_last v) (visit_last y)) (visits f s p i free))
-              (subst (λ (z : ℤ). pos s ≤ℤ z) (ap visit_last (sym of.2)) ends)
+              (low_end (end_of y) (count_by (λ v. visit_undone p v && le_z (end_of v) (end_of y)) (visits f s p i free))
+              (subst (λ (z : ℤ). pos s ≤ℤ z) (ap end_of (sym of.2)) ends)
               (omega (arith, few, visits-fit f.legs (from f s p i free))))
         ] in
         let top : found f s p i free ≤ℤ pos 1023 =

@@ -4,17 +4,16 @@ use Rattle.std.proofs.lemmas.List.Sums.{sum_by-cons}
 use Rattle.std.proofs.lemmas.Int.{ints}
 use Rattle.frame.specs.declared.visit.Visit.{Visit}
 use Rattle.frame.specs.Sorts.{insert_by, sort_by}
-use Rattle.frame.specs.Visits.{ends_no_later}
-use Rattle.ranking.specs.Sweep.{visit_last}
+use Rattle.frame.specs.Visits.{end_of, ends_no_later}
 use Rattle.ranking.proofs.Members.{In}
 use Rattle.ranking.proofs.Least.{≤_trans}
 use Rattle.ranking.proofs.Passes.{Rising, le_from_int}
 
 -- what the order of ends says
-ends_le : (v w : Visit) → ends_no_later v w ≡ true → visit_last v ≤ℤ visit_last w
-ends_le v w e = le_from_int (visit_last v) (visit_last w) e
+ends_le : (v w : Visit) → ends_no_later v w ≡ true → end_of v ≤ℤ end_of w
+ends_le v w e = le_from_int (end_of v) (end_of w) e
 
-ends_gt : (v w : Visit) → ends_no_later v w ≡ false → visit_last w ≤ℤ visit_last v
+ends_gt : (v w : Visit) → ends_no_later v w ≡ false → end_of w ≤ℤ end_of v
 ends_gt v w e = grind (arith, ints)
 
 -- what stands in the list with one more
@@ -76,23 +75,23 @@ count_sort q (v ∷ vs) =
     ∙ sym (sum_by-cons (λ y. cond (q y) 1 0) v vs)
 
 -- the ends rise
-rising-insert : (v : Visit) (ws : List Visit) → Rising visit_last ws → Rising visit_last (insert_by ends_no_later v ws)
+rising-insert : (v : Visit) (ws : List Visit) → Rising end_of ws → Rising end_of (insert_by ends_no_later v ws)
 rising-insert v [] rising = (λ y i. absurd i, tt)
 rising-insert v (w ∷ ws) rising = go (ends_no_later v w) refl (rising-insert v ws rising.1)
   where
-    first : visit_last v ≤ℤ visit_last w → (y : Visit) → In y (w ∷ ws) → visit_last v ≤ℤ visit_last y
+    first : end_of v ≤ℤ end_of w → (y : Visit) → In y (w ∷ ws) → end_of v ≤ℤ end_of y
     first h y (inl e) = rw e h
-    first h y (inr i) = ≤_trans (visit_last v) (visit_last w) (visit_last y) h (rising.0 y i)
+    first h y (inr i) = ≤_trans (end_of v) (end_of w) (end_of y) h (rising.0 y i)
 
-    behind : visit_last w ≤ℤ visit_last v → (y : Visit) → In y (v ∷ ws) → visit_last w ≤ℤ visit_last y
+    behind : end_of w ≤ℤ end_of v → (y : Visit) → In y (v ∷ ws) → end_of w ≤ℤ end_of y
     behind h y (inl e) = rw e h
     behind h y (inr i) = rising.0 y i
 
-    go : (b : Bool) → ends_no_later v w ≡ b → Rising visit_last (insert_by ends_no_later v ws) → Rising visit_last (cond b (v ∷ w ∷ ws) (w ∷ insert_by ends_no_later v ws))
+    go : (b : Bool) → ends_no_later v w ≡ b → Rising end_of (insert_by ends_no_later v ws) → Rising end_of (cond b (v ∷ w ∷ ws) (w ∷ insert_by ends_no_later v ws))
     go true is rest = (first (ends_le v w is), rising)
     go false is rest = (λ y i. behind (ends_gt v w is) y (in_insert v ws y i), rest)
 
 -- sorted visits rise
-pub rising_sort : (vs : List Visit) → Rising visit_last (sort_by ends_no_later vs)
+pub rising_sort : (vs : List Visit) → Rising end_of (sort_by ends_no_later vs)
 rising_sort [] = tt
 rising_sort (v ∷ vs) = rising-insert v (sort_by ends_no_later vs) (rising_sort vs)

@@ -10,9 +10,9 @@ use Rattle.frame.specs.declared.visit.Visit.{Visit}
 use Rattle.frame.specs.Frames.{FrameSpec, no_hop, no_leg, leg_at, leg_count, size_of, hop_at}
 use Rattle.frame.specs.Legs.{LegSpec}
 use Rattle.frame.specs.States.{HopId, hop_id, done_of, undone_of, undone_hops}
-use Rattle.frame.specs.Visits.{is_at, visit_of, leg_visits, visits_from, visits_at}
+use Rattle.frame.specs.Visits.{end_of, is_at, visit_of, leg_visits, visits_from, visits_at}
 use Rattle.ranking.specs.Laxity.{undone_at, first_of, last_of, slack}
-use Rattle.ranking.specs.Sweep.{visit_undone, visit_last}
+use Rattle.ranking.specs.Sweep.{visit_undone}
 use Rattle.ranking.proofs.Members.{In, map_in, in_map, in_kept, kept_in, in_joined, joined_in, in_counting, counting_in}
 use Rattle.ranking.proofs.Members.{count_map, count_same, count_kept, kept_map, kept_swap, kept_from}
 use Rattle.ranking.proofs.Sorting.{in_sort, sort_in, count_sort}
@@ -85,14 +85,14 @@ module _ (f : FrameSpec) (p : List ℕ) (u : ℕ) where
 
   -- no r is before the slot, so that the slack counts all that end by b
   pub slack-visits : (s : ℕ) (b : ℤ) → slack f s p u b ≡
-      ((b -ℤ pos s) +ℤ pos 1) -ℤ pos (0 + count_by (λ v. visit_undone p v && le_z (visit_last v) b) (visits_at f.legs u))
+      ((b -ℤ pos s) +ℤ pos 1) -ℤ pos (0 + count_by (λ v. visit_undone p v && le_z (end_of v) b) (visits_at f.legs u))
   slack-visits s b =
       let counts =
       count_same (λ h. leb s (first_of f s p h) && le_z (last_of f h) b) (λ h. le_z (last_of f h) b)
       (λ h. ap (λ t. t && le_z (last_of f h) b) (le-leb s (first_of f s p h) (omega arith))) (undone_at f p u)
-      ∙ count-visits (λ v. le_z (visit_last v) b) in
-      let from : count_by (λ v. visit_undone p v && le_z (visit_last v) b) (visits_at f.legs u)
-      ≡ 0 + count_by (λ v. visit_undone p v && le_z (visit_last v) b) (visits_at f.legs u) = omega arith in
+      ∙ count-visits (λ v. le_z (end_of v) b) in
+      let from : count_by (λ v. visit_undone p v && le_z (end_of v) b) (visits_at f.legs u)
+      ≡ 0 + count_by (λ v. visit_undone p v && le_z (end_of v) b) (visits_at f.legs u) = omega arith in
       ap (λ n. ((b -ℤ pos s) +ℤ pos 1) -ℤ pos n) (counts ∙ from)
 
   -- an undone hop at u, by its leg and place

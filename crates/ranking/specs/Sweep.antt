@@ -5,18 +5,16 @@ use Rattle.std.specs.Int.{int_min}
 use Rattle.std.specs.Option.{option_map_or}
 use Rattle.frame.specs.declared.visit.Visit.{Visit}
 use Rattle.frame.specs.States.{done_of}
+use Rattle.frame.specs.Visits.{end_of}
 use Rattle.ranking.specs.declared.sweep.Sweep.{Sweep}
 
 -- the hop is undone
 abbrev pub visit_undone : List ℕ → Visit → Bool
 visit_undone p v = nat_le (done_of p v.leg) v.place
 
--- r and d of an undone hop
+-- r of an undone hop; its d is `end_of` the visit
 abbrev pub visit_first : ℕ → List ℕ → Visit → ℕ
 visit_first s p v = max v.release s + (v.place - done_of p v.leg)
-
-abbrev pub visit_last : Visit → ℤ
-visit_last v = pos v.due -ℤ pos v.after
 
 -- the end b of one more undone hop counts: its r is in time, or that of one before it with the same end
 abbrev pub is_live_end : Bool → ℤ → Sweep → Bool
@@ -32,7 +30,7 @@ passed s timely b w = record {
 
 -- the pass after one more hop; hops that are done are passed over
 abbrev pub met : ℕ → ℤ → List ℕ → Sweep → Visit → Sweep
-met s d p w v = cond (visit_undone p v) (passed s (int_le (pos (visit_first s p v)) d) (visit_last v) w) w
+met s d p w v = cond (visit_undone p v) (passed s (int_le (pos (visit_first s p v)) d) (end_of v) w) w
 
 -- no hop is met yet
 abbrev pub started : ℤ → Sweep

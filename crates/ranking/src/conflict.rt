@@ -1,5 +1,5 @@
 ghost use Rattle.std.specs.Prelude.{◌≡◌};
-ghost use Rattle.frame.specs.Frames.{frame_spec};
+ghost use Rattle.frame.specs.Moments.{at_moment};
 ghost use Rattle.ranking.specs.Bounds.{LaxityBounds};
 ghost use Rattle.ranking.specs.Laxity.{conflict_aware};
 
@@ -16,12 +16,9 @@ pub struct ConflictAware;
 impl ConflictAware {
     // The conflict-aware laxity of the next hop of a leg, where it is released in a state; else 0.
     pub fn laxity(&self, moment: Moment<'_>, leg: usize) -> i32
-        ensures value { result
-            ≡ conflict_aware (frame_spec moment.entry.frame.now) moment.entry.slot moment.entry.progress.now leg }
-        ensures bounds { LaxityBounds (frame_spec moment.entry.frame.now)
-            moment.entry.slot moment.entry.progress.now result }
+        ensures value { result ≡ at_moment conflict_aware moment.entry leg }
+        ensures bounds { at_moment LaxityBounds moment.entry result }
     {
-        // no `map_or`: of a closure that holds a moment the proof learns nothing
         let Some(hop) = released_hop(moment, leg) else {
             return 0;
         };

@@ -1,6 +1,6 @@
 ghost use Rattle.std.specs.Prelude.{◌≡◌, ◌<◌, pos, ◌-ℤ◌};
+ghost use Rattle.frame.specs.Moments.{at_moment};
 ghost use Rattle.frame.specs.Legs.{leg_spec};
-ghost use Rattle.frame.specs.Frames.{frame_spec};
 ghost use Rattle.ranking.specs.Next.{hop_in, is_ready_leg, released_hop_of};
 
 use frame::{Leg, Moment};
@@ -20,7 +20,7 @@ impl NextHop {
     {
         let after = leg.count - place - 1;
         NextHop {
-            sender: leg.hops[place as usize].sender,
+            sender: leg.hops()[place as usize].sender,
             end: leg.due as i16 - after as i16,
         }
     }
@@ -35,16 +35,14 @@ impl NextHop {
 
 // Whether the next hop of a leg is released in a state.
 fn is_ready(moment: Moment<'_>, leg: usize) -> bool
-    ensures { result
-        ≡ is_ready_leg (frame_spec moment.entry.frame.now) moment.entry.slot moment.entry.progress.now leg }
+    ensures { result ≡ at_moment is_ready_leg moment.entry leg }
 {
     moment.is_state() && moment.is_released(leg)
 }
 
 // The next hop of a leg, where it is released in a state.
 pub(crate) fn released_hop(moment: Moment<'_>, leg: usize) -> Option<NextHop>
-    ensures { result
-        ≡ released_hop_of (frame_spec moment.entry.frame.now) moment.entry.slot moment.entry.progress.now leg }
+    ensures { result ≡ at_moment released_hop_of moment.entry leg }
 {
     let found = moment.frame.legs().get(leg)?;
     if !is_ready(moment, leg) {

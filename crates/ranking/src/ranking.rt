@@ -1,4 +1,5 @@
 ghost use Rattle.std.specs.Prelude.{◌≡◌, ℕ, List, ℤ};
+ghost use Rattle.frame.specs.Moments.{at_moment};
 ghost use Rattle.frame.specs.Frames.{FrameSpec, frame_spec};
 
 use frame::Moment;
@@ -9,6 +10,5 @@ pub trait Ranking {
     ghost key: { Self → FrameSpec → ℕ → List ℕ → ℕ → ℤ };
 
     fn rank(&self, moment: Moment<'_>, leg: usize) -> i32
-        ensures { result
-            ≡ key self.now (frame_spec moment.entry.frame.now) moment.entry.slot moment.entry.progress.now leg };
+        ensures { result ≡ at_moment (key self.now) moment.entry leg };
 }

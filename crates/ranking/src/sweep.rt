@@ -1,7 +1,7 @@
 ghost use Rattle.std.specs.Prelude.{◌≡◌, ◌+◌, ◌-◌, ◌<◌, ◌≤◌, max, pos, negsuc, ◌+ℤ◌, ◌-ℤ◌, ◌≤ℤ◌, int_le};
 ghost use Rattle.frame.specs.Frames.{frame_spec};
-ghost use Rattle.frame.specs.Visits.{visits_at};
-ghost use Rattle.ranking.specs.Sweep.{is_live_end, least_slack_of, met, passed, visit_last};
+ghost use Rattle.frame.specs.Visits.{end_of, visits_at};
+ghost use Rattle.ranking.specs.Sweep.{is_live_end, least_slack_of, met, passed};
 
 use crate::hops::NextHop;
 use frame::{Moment, Visit};
@@ -15,20 +15,11 @@ pub(crate) struct Sweep {
     pub(crate) best: i32,
 }
 
-// The last slot of a hop's lifetime; it may be negative.
-fn last_slot(visit: &Visit) -> i32
-    ensures value { result ≡ visit_last visit.now }
-    ensures low { negsuc 254 ≤ℤ result }
-    ensures high { result ≤ℤ pos 65535 }
-{
-    visit.due as i32 - visit.after as i32
-}
-
 // The slots from `slot` to the end of a hop's lifetime, less so many hops.
 fn slack(visit: &Visit, slot: u16, count: u16) -> i32
-    ensures { result ≡ ((visit_last visit.now -ℤ pos slot) +ℤ pos 1) -ℤ pos count }
+    ensures { result ≡ ((end_of visit.now -ℤ pos slot) +ℤ pos 1) -ℤ pos count }
 {
-    last_slot(visit) - slot as i32 + 1 - count as i32
+    visit.end() - slot as i32 + 1 - count as i32
 }
 
 // Whether the lifetime of an undone hop begins no later than that of the ranked hop ends.
@@ -51,10 +42,10 @@ impl Sweep {
     // One more undone hop, which begins in time or not.
     fn pass(self, slot: u16, timely: bool, visit: &Visit) -> Sweep
         requires { self.count < 2048 }
-        ensures { result ≡ passed slot timely (visit_last visit.now) self }
+        ensures { result ≡ passed slot timely (end_of visit.now) self }
     {
         let count = self.count + 1;
-        let end = last_slot(visit);
+        let end = visit.end();
         if !self.is_live(timely, end) {
             return Sweep {
                 count,
@@ -93,7 +84,7 @@ pub(crate) fn least_slack(moment: Moment<'_>, hop: NextHop) -> i32
         live: None,
         best: hop.laxity(moment.slot),
     };
-    // a loop and no `fold`: tried, and that `meet` may be called, with its bound on the count, was not proved
+    // no `fold`: in its closure the bound on the count, which `meet` requires, is not known
     for visit in moment.frame.visits(hop.sender) {
         sweep = sweep.meet(moment, hop, visit);
     }

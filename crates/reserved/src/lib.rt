@@ -2,6 +2,5 @@
 #![tactic(auto)]
 
 mod list;
-mod methods;
 
 pub use list::Reserved;

@@ -17,13 +17,6 @@ use Rattle.table.specs.Tables.{flows_in}
 use Rattle.table.specs.Places.{number_at, IsIndexOf, IsPlaceOf}
 use Rattle.table.proofs.Order.{Stands, enter-leave}
 
--- the number at an index is that of the flow which the code reads there
-pub number_read : (flows : List Flow) (i : ℕ) (x : Flow) → i < length flows → x ≡ get_or flows i x →
-    number_at (map flow_spec flows) i ≡ x.number
-number_read flows i x h is =
-    get_or-map (λ f. f.number) (map flow_spec flows) i (flow_spec x) 0 (omega (arith, length-map flows flow_spec))
-    ∙ ap (λ f. f.number) (get_or-map flow_spec flows i x (flow_spec x) h) ∙ ap (λ f. f.number) (sym is)
-
 -- where no index has the number, no flow of it is in force
 pub not_found : (n : ℕ) (fs : List FlowSpec) → ((k : ℕ) → k < length fs → eqb (number_at fs k) n ≡ false) → in_force n fs ≡ false
 not_found n [] fail = refl
@@ -194,7 +187,7 @@ module _ (n : ℕ) (flows : List Flow) (i : ℕ) (up : rising (map flow_spec flo
   module _ (x : Flow) (read : x ≡ get_or flows i x) where
     -- it has the number
     pub named-so : x.number ≡ n
-    named-so = sym (number_read flows i x index-within read) ∙ is.named
+    named-so = ap (λ f. f.number) read ∙ number_of flows i x index-within ∙ is.named
 
     -- it goes back to where it stood
     pub goes_back : enter (flow_spec x) (leave n (map flow_spec flows)) ≡ map flow_spec flows

@@ -4,7 +4,9 @@ use Prim.Native.Nat.{◌∣◌}
 use native.Mathlib.Nat.{dvd_trans, dvd-mul_left, mod-eq-zero_of_dvd, dvd_of_mod-eq-zero, mod-mod_of_dvd, mul-mod_right, pos_of_dvd_of_pos}
 use Rattle.std.specs.List.{AllByRecursion as All}
 use Rattle.std.proofs.lemmas.List.{map_more, take-map}
+use Rattle.std.proofs.lemmas.List.Recursion.{and_push}
 use Rattle.std.proofs.lemmas.List.Sums.{sum_by-cons}
+use Rattle.std.proofs.Math.Bool.{and_comm}
 use Rattle.std.proofs.lemmas.Bool.{both_ways, cases_Bool, cases_eq, cond-true, cond-false, cond_both, and_parts, and_from, eq-eqb, eqb-true}
 use Rattle.flow.specs.declared.traffic.Flow.{Flow}
 use Rattle.flow.specs.First.{first_from}
@@ -130,9 +132,8 @@ and_swap false false c = refl
 
 -- a common multiple with one more flow at the end: its period divides it too
 pub common_push : (n : ℕ) (f : FlowSpec) (fs : List FlowSpec) → common n (fs ++ f ∷ []) ≡ (eqb (n % f.period) 0 && common n fs)
-common_push n f [] = refl
-common_push n f (g ∷ gs) =
-    ap (λ b. eqb (n % g.period) 0 && b) (common_push n f gs) ∙ and_swap (eqb (n % g.period) 0) (eqb (n % f.period) 0) (common n gs)
+common_push n f fs =
+    and_push (common n) (λ g. eqb (n % g.period) 0) refl (λ g gs. refl) fs f ∙ and_comm (common n fs) (eqb (n % f.period) 0)
 
 -- with one more flow at its place
 pub common-enter : (n : ℕ) (f : FlowSpec) (fs : List FlowSpec) → common n (enter f fs) ≡ (eqb (n % f.period) 0 && common n fs)

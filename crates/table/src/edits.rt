@@ -1,10 +1,9 @@
 ghost use Rattle.std.specs.Prelude.{◌≡◌, ◌<◌, ◌≤◌, true, false, [], map, length, IfOk};
 ghost use Rattle.flow.specs.Flows.{flow_spec};
 ghost use Rattle.table.specs.Force.{in_force, enter, leave};
-ghost use Rattle.table.specs.Frame.{LeastCommonMultiple, frame, transmissions};
+ghost use Rattle.table.specs.Frame.{frame, transmissions};
 ghost use Rattle.table.specs.Tables.{flows_in};
 
-use crate::frame::{frame_of, transmissions_of};
 use crate::table::FlowTable;
 use flow::Flow;
 use reserved::Reserved;
@@ -33,23 +32,6 @@ impl FlowTable {
         ensures { result ≡ in_force number (flows_in self.now) }
     {
         self.search(number).is_ok()
-    }
-
-    // The slots of the frame: the least common multiple of the periods, 1 without flows.
-    pub fn frame(&self) -> u32
-        ensures value { result ≡ frame (flows_in self.now) }
-        ensures least { LeastCommonMultiple result (flows_in self.now) }
-        ensures bound { result ≤ 1024 }
-    {
-        frame_of(self.as_slice())
-    }
-
-    // The transmissions in the frame.
-    pub fn transmissions(&self) -> u32
-        ensures value { result ≡ transmissions (flows_in self.now) }
-        ensures bound { result ≤ 2048 }
-    {
-        transmissions_of(self.as_slice(), self.frame())
     }
 
     // Puts a flow at its place. It is new, there is room for it, and with it the flows fit one frame.

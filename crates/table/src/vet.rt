@@ -7,7 +7,7 @@ ghost use Rattle.table.specs.Tables.{flows_in};
 ghost use Rattle.table.specs.Vetting.{result_at_flow, number_fault, place_fault, retire_fault, time_fault, frame_fault, vetted};
 
 use crate::fault::{PlanFault, PlanRule};
-use crate::frame::{frame_with, transmissions_by, transmissions_of};
+use crate::frame::transmissions_by;
 use crate::request::FlowRequest;
 use crate::table::FlowTable;
 use flow::{Flow, Routes};
@@ -49,12 +49,11 @@ impl FlowTable {
         ensures { result ≡ unless (frame_fault flow.now.number
             (enter (flow_spec flow.now) (flows_in self.now))) (Ok tt) }
     {
-        let flows = self.as_slice();
-        let slots = frame_with(flows, flow);
+        let slots = self.frame_with(flow);
         if slots > LONGEST {
             return Err(PlanRule::Frame.at_flow(flow.number));
         }
-        let load = transmissions_of(flows, slots) + transmissions_by(flow, slots);
+        let load = self.transmissions_in(slots) + transmissions_by(flow, slots);
         if load > HEAVIEST {
             return Err(PlanRule::Transmissions.at_flow(flow.number));
         }

@@ -1,6 +1,6 @@
 -- The first set of a slot takes each leg that can join.
 use Rattle.std.proofs.Common.{◌≡◌, ℕ, Bool, true, false, cond, leb, List, [], ◌∷◌, ◌++◌, map, get_or, filter, sym, refl, ap, ◌∙◌, arith}
-use Rattle.std.proofs.lemmas.List.Elements.{filter-append}
+use Rattle.std.proofs.lemmas.List.Elements.{filter-append, filter_agree}
 use Rattle.std.proofs.lemmas.List.{append_assoc, append-nil}
 use Rattle.std.proofs.lemmas.Bool.{cond_both, and_from, le-leb}
 use Rattle.frame.specs.Frames.{FrameSpec}
@@ -8,11 +8,6 @@ use Rattle.frame.specs.Sets.{sendable, subsets}
 use Rattle.frame.specs.Quick.{Order, first_set}
 use Rattle.theory.specs.Greedy.{joins, greedy}
 use Rattle.theory.proofs.Clear.{joins-sendable, unsendable_longer}
-
--- a filter by tests that agree
-kept_by_same : {X : Type 0} (t u : X → Bool) → ((x : X) → t x ≡ u x) → (xs : List X) → filter t xs ≡ filter u xs
-kept_by_same t u same [] = refl
-kept_by_same t u same (x ∷ xs) = rw (same x, kept_by_same t u same xs)
 
 -- a filter that nothing passes
 kept_by_none : {X : Type 0} (t : X → Bool) → ((x : X) → t x ≡ false) → (xs : List X) → filter t xs ≡ []
@@ -54,7 +49,7 @@ module _ (f : FrameSpec) (p : List ℕ) where
     where
       same : filter (λ set. sendable f p (chosen ++ x ∷ set)) (subsets xs) ≡ with (chosen ++ x ∷ []) xs
       same =
-          kept_by_same (λ set. sendable f p (chosen ++ x ∷ set)) (λ set. sendable f p ((chosen ++ x ∷ []) ++ set))
+          filter_agree (λ set. sendable f p (chosen ++ x ∷ set)) (λ set. sendable f p ((chosen ++ x ∷ []) ++ set))
           (λ set. ap (sendable f p) (sym (append_assoc chosen (x ∷ []) set))) (subsets xs)
 
   -- none has the first leg, if it cannot join

@@ -1,5 +1,5 @@
 -- What a list has, and lists in which nothing stands twice.
-use Rattle.std.proofs.Common.{◌≡◌, ℕ, zero, suc, ◌+◌, ◌<◌, ◌≤◌, Bool, true, false, cond, eqb, ◌⊎◌, List, [], ◌∷◌, ◌++◌, length, filter, sym, refl, ap, ◌∙◌, subst, inl, inr, ⊎_elim, arith}
+use Rattle.std.proofs.Common.{◌≡◌, ℕ, zero, suc, ◌+◌, ◌<◌, ◌≤◌, Bool, true, false, cond, eqb, ◌⊎◌, List, [], ◌∷◌, length, filter, sym, refl, ap, ◌∙◌, subst, inl, inr, ⊎_elim, arith}
 use Rattle.std.specs.List.{range_with_len, ContainsAt as Has}
 use Rattle.std.proofs.lemmas.Bool.{cond_both, cases_eq, false≢true, eqb-true, eqb-false}
 use Rattle.frame.specs.Grids.{Distinct}
@@ -28,13 +28,6 @@ has_or_not (y ∷ ys) x =
     ⊎_elim (λ e. inl (subst (λ z. Has (y ∷ ys) z) e (has_here y ys)))
     (λ ne. ⊎_elim (λ h. inl (has_there y ys x h)) (λ out. inr (λ h. ⊎_elim ne out (has_cases y ys x h))) (has_or_not ys x))
     (cases_eq y x)
-
--- what two lists in one have
-pub has_append_cases : {X : Type 0} (xs ys : List X) (x : X) → Has (xs ++ ys) x → Has xs x ⊎ Has ys x
-has_append_cases [] ys x h = inr h
-has_append_cases (y ∷ xs) ys x h =
-    ⊎_elim (λ e. inl (subst (λ z. Has (y ∷ xs) z) e (has_here y xs)))
-    (λ r. ⊎_elim (λ l. inl (has_there y xs x l)) (λ l. inr l) (has_append_cases xs ys x r)) (has_cases y (xs ++ ys) x h)
 
 -- what a filtered list has, the list has
 pub has_from_kept : {X : Type 0} (t : X → Bool) (xs : List X) (x : X) → Has (filter t xs) x → Has xs x

@@ -2,7 +2,7 @@
 use Rattle.std.proofs.Common.{◌≡◌, ℕ, zero, suc, ◌+◌, ◌-◌, ◌<◌, ◌≤◌, Bool, true, false, cond, not, ◌&&◌, List, [], ◌∷◌, ◌++◌, length, get_or, take, drop, set, sym, refl, ap, ap₂, ◌∙◌, subst, ⊎_elim, append_assoc, append-nil, arith}
 use Rattle.std.specs.List.{ContainsAt as Has}
 use Rattle.std.proofs.lemmas.List.{length-append, length-take, take_more, drop_at, take-append-drop, get_or_default}
-use Rattle.std.proofs.lemmas.Bool.{lt-ltb, le-ltb}
+use Rattle.std.proofs.lemmas.Bool.{lt-ltb}
 use Rattle.frame.specs.declared.placement.Placement.{Placement}
 use Rattle.frame.specs.Frames.{FrameSpec, size_of}
 use Rattle.frame.specs.States.{done_of}
@@ -11,8 +11,9 @@ use Rattle.frame.specs.Quick.{placed, placed_from}
 use Rattle.frame.specs.Grids.{Distinct}
 use Rattle.theory.specs.Greedy.{joins, greedy}
 use Rattle.theory.proofs.Members.{has_cases}
+use Rattle.theory.proofs.Listing.{length-placed}
 use Rattle.theory.proofs.Progress.{done_sent_other}
-use Rattle.theory.proofs.Chosen.{has_from-greedy}
+use Rattle.theory.proofs.Chosen.{greedy_full, has_from-greedy}
 use Rattle.walk.specs.Filling.{apart, placed_at, next_cell, can_join, Ready}
 use Rattle.walk.specs.Walks.{Stand, joined, with_set}
 
@@ -37,14 +38,6 @@ module _ (f : FrameSpec) (p : List ℕ) where
           (append_assoc chosen (x ∷ []) (greedy f p (chosen ++ x ∷ []) xs))
       go false h k = k
 
-  -- a full set takes no more
-  pub greedy_full : (xs chosen : List ℕ) → f.channels ≤ length chosen → greedy f p chosen xs ≡ []
-  greedy_full [] chosen h = refl
-  greedy_full (x ∷ xs) chosen h =
-      ap (λ b. cond (b && clear f p x chosen) (x ∷ greedy f p (chosen ++ x ∷ []) xs) (greedy f p chosen xs))
-      (le-ltb (length chosen) f.channels h)
-      ∙ greedy_full xs chosen h
-
   -- no more legs are taken than there are
   pub length-greedy : (xs chosen : List ℕ) → length (greedy f p chosen xs) ≤ length xs
   length-greedy [] chosen = omega arith
@@ -62,11 +55,6 @@ module _ (f : FrameSpec) (p : List ℕ) where
   placed_push s offset (y ∷ xs) x =
       ap (λ l. placed f s p offset y ∷ l)
       (placed_push s (offset + 1) xs x ∙ ap (λ o. placed_from f s p (offset + 1) xs ++ placed f s p o x ∷ []) (omega arith))
-
-  -- as many placements as legs
-  pub length-placed : (s offset : ℕ) (xs : List ℕ) → length (placed_from f s p offset xs) ≡ length xs
-  length-placed s offset [] = refl
-  length-placed s offset (x ∷ xs) = ap suc (length-placed s (offset + 1) xs)
 
   -- a placement is apart from those of a set as its leg is clear of the set
   pub apart-clear : (s offset from : ℕ) (x : ℕ) (xs : List ℕ) →
@@ -116,7 +104,7 @@ module _ (f : FrameSpec) (s : ℕ) (p : List ℕ) (base : List Placement) (legs 
       ≡ placed f s p (0 + length (taken f p legs j)) (get_or legs j 0)
   next-cell =
       let n = length-append base (placed_from f s p 0 (taken f p legs j)) in
-      let m = length-placed f p s 0 (taken f p legs j) in
+      let m = length-placed f (taken f p legs j) s p 0 in
       let e : length (laid f s p base (taken f p legs j)) - length base ≡ 0 + length (taken f p legs j) = omega arith in
       ap (λ o. placed_at f s o (get_or legs j 0) (done_of (sent (taken f p legs j) p) (get_or legs j 0))) e
       ∙ ap (λ k. placed_at f s (0 + length (taken f p legs j)) (get_or legs j 0) k) same_done
@@ -191,7 +179,7 @@ taken_full f p legs j h =
 -- the trail's length
 pub length-laid : (f : FrameSpec) (s : ℕ) (p : List ℕ) (base : List Placement) (legs : List ℕ) →
     length (laid f s p base legs) ≡ length base + length legs
-length-laid f s p base legs = length-append base (placed_from f s p 0 legs) ∙ ap (λ n. length base + n) (length-placed f p s 0 legs)
+length-laid f s p base legs = length-append base (placed_from f s p 0 legs) ∙ ap (λ n. length base + n) (length-placed f legs s p 0)
 
 -- a walk once the legs taken of the first j are sent
 abbrev pub so_far : ℕ → List ℕ → ℕ → Stand → Stand

@@ -11,12 +11,12 @@ use Rattle.frame.specs.Quick.{Order, Ended, filled, missed, behind, first_set, q
 use Rattle.theory.specs.Orders.{Orders}
 use Rattle.theory.proofs.Chosen.{first-distinct, first-released, released_below}
 use Rattle.theory.proofs.Lifetimes.{not-past}
+use Rattle.theory.proofs.Listing.{length-placed}
 use Rattle.theory.proofs.Progress.{fits_sum, fits-length, fits-sent, fits-untouched, sum-sent, sum-untouched}
 use Rattle.theory.proofs.Ranked.{ranked_orders}
 use Rattle.walk.specs.Outcomes.{Keys, order_by, Outcome, grid, miss, outcome_of, quick_outcome}
 use Rattle.walk.specs.Walking.{outcome_from, after}
 use Rattle.walk.specs.Walks.{Stand, start, entered, IsMomentOf}
-use Rattle.walk.proofs.Slots.{length-placed}
 
 -- placements in front of placements
 after-after : (a b : List Placement) (o : Outcome) → after a (after b o) ≡ after (a ++ b) o
@@ -95,7 +95,7 @@ module _ (f : FrameSpec) (key : Keys) where
       fit = fits-sent f p on.fit (n + 1) set (first-distinct f order orders (n + 1) p) (first-released f order orders (n + 1) p);
       counted =
           let a = length-append trail (placed_from f (n + 1) p 0 set) in
-          let b = length-placed f p (n + 1) 0 set in
+          let b = length-placed f set (n + 1) p 0 in
           let m = fits-length f.legs p on.fit in
           let h = sum-sent set p (λ i has. let k = released_below f (n + 1) p i (first-released f order orders (n + 1) p i has) in
           omega arith) in

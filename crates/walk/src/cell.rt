@@ -10,7 +10,7 @@ pub(crate) fn placement(frame: &Frame, slot: u16, offset: u8, leg: usize, done: 
     ensures { result ≡ placed_at (frame_spec frame.now) slot offset leg done }
 {
     let leg = &frame.legs()[leg];
-    let hop = leg.hops[done as usize];
+    let hop = leg.hops()[done as usize];
     Placement {
         slot,
         offset,

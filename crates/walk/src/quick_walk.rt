@@ -11,7 +11,7 @@ use ranking::Ranking;
 // Fills the frame by the quick walk: the first set at each state, and no way back. Answers the number of placements of the
 // grid, which then stand at the front of `grid`, or the first slot in which some hop cannot be in time. Refused where a
 // memory is too short, which leaves them all as they were. After a granted call trail, marks and progress hold anything.
-// Each memory is lent as a slice of its own, so that `Runs` says what it holds in the end; one struct of them would hide that.
+// The four memories are four parameters by a rule of the project: the caller lends each as a slice of its own.
 pub fn quick<R: Ranking>(
     frame: &Frame,
     ranking: &R,

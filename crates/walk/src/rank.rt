@@ -8,7 +8,7 @@ use crate::stack::Stack;
 use frame::Moment;
 use ranking::Ranking;
 
-// Lists the legs whose next hop is released in a state, the lowest key first, ties by leg order.
+// Lists the legs whose next hop is released, the lowest key first, ties by leg order.
 pub(crate) fn rank_legs<R: Ranking>(ranking: &R, moment: Moment<'_>, ranked: &mut Stack<'_, Ranked>)
     requires { leg_count (frame_spec moment.frame.now) ≤ room_of ranked.old }
     ensures ranked { entries ranked.new

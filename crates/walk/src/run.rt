@@ -23,6 +23,7 @@ impl Walk<'_> {
         let mut room = [Ranked::default(); 2048];
         let mut ranked = Stack::new(&mut room);
         let mut slot = 1;
+        // no range of slots: that the walk ends is the loop's measure, and behind a range there would be nothing to answer
         loop {
             let here = self.moment(slot);
             if here.is_complete() {

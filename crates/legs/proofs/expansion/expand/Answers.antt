@@ -19,8 +19,8 @@ light c =
     ∙ ap (λ t. transmissions_in t flows) c.frame-slots.ensures.value in
     omega (arith, is, c.args.table.now.light)
 
-pub push_flow-requires : goal.push_flow-requires
-push_flow-requires c =
+pub push_flow-requires-clause-room : goal.push_flow-requires-clause-room
+push_flow-requires-clause-room c =
     let fs = c.as_slice-flow-items.result.now in
     let f = c.flow-item.result in
     let l = c.loop-flow in
@@ -29,12 +29,4 @@ push_flow-requires c =
     let fits =
     next-fits (flow_legs t) (flow_spec f) (map flow_spec (drop i fs)) (map flow_spec (drop (i + 1) fs)) leg_spec (held l.legs) []
     (legs_of t (map flow_spec fs)) (map_next flow_spec fs i f c.loop-flow-test.true c.flow-item.is) l.invariant in
-    record {
-      short = c.frame-slots.ensures.bound;
-      room = omega (
-        arith,
-        fits,
-        legs-few t fs,
-        light (goal.at.push_flow-requires c).In-loop-flow,
-      );
-    }
+    omega (arith, fits, legs-few t fs, light (goal.at.push_flow-requires-clause-room c).In-loop-flow)

@@ -13,8 +13,8 @@ pub push-requires : goal.push-requires
 push-requires g c =
     let f = frame_spec c.args.moment.frame.now in
     let key : ℕ → ℤ = g.R.Ranking.key c.args.ranking.now f c.args.moment.slot c.args.moment.progress.now in
-    let few = length_listed key (released f c.args.moment.slot c.args.moment.progress.now) c.loop-leg.leg in
-    omega (arith, ap length c.loop-leg.invariant.ranked, c.loop-leg.invariant.whole)
+    let few = length_listed key (released f c.args.moment.slot c.args.moment.progress.now) c.loop-leg.leg _ c.loop-leg.invariant.ranked in
+    omega (arith, c.loop-leg.invariant.whole)
 
 pub loop-leg-preserved : goal.loop-leg-preserved
 loop-leg-preserved g c =

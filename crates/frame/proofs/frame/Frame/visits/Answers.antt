@@ -1,17 +1,20 @@
-use Rattle.std.proofs.Common.{◌+◌, ◌-◌, length, take, drop, ap, ◌∙◌, arith}
+use Rattle.std.proofs.Common.{◌≤◌, ◌+◌, ◌-◌, length, take, drop, ap, ◌∙◌, arith}
 use Rattle.frame.specs.Frames.{frame_spec}
 use Rattle.frame.proofs.Shares.{table_front, table_part, below_rises, below_fits, visits-fit}
 use Rattle.frame.proofs.frame.Frame.visits.Goals as goal
+use Rattle.frame.proofs.frame.Frame.visits.Goals.{After-start-end}
+
+-- the device's part begins at or before its end
+rises : (c : After-start-end) → c.start-first.result ≤ c.start-end.result
+rises c =
+    let legs = (frame_spec c.args.self.now).legs in
+    omega (arith, c.start-first.ensures, c.start-end.ensures, below_rises legs c.args.device (c.args.device + 1) (omega arith))
 
 pub slice_bounds-result-count : goal.slice_bounds-result-count
-slice_bounds-result-count c =
-    let legs = (frame_spec c.args.self.now).legs in
-    omega (arith, c.start-first.ensures, c.start-end.ensures, below_rises legs c.args.device (c.args.device + 1) (omega arith))
+slice_bounds-result-count c = rises (goal.at.slice_bounds-result-count c).After-start-end
 
 pub slice_bounds-result-start : goal.slice_bounds-result-start
-slice_bounds-result-start c =
-    let legs = (frame_spec c.args.self.now).legs in
-    omega (arith, c.start-first.ensures, c.start-end.ensures, below_rises legs c.args.device (c.args.device + 1) (omega arith))
+slice_bounds-result-start c = rises (goal.at.slice_bounds-result-start c).After-start-end
 
 pub slice_bounds-result-end : goal.slice_bounds-result-end
 slice_bounds-result-end c =

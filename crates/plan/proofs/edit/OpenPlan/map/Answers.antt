@@ -2,32 +2,18 @@ use Rattle.std.proofs.Common.{◌≡◌, None}
 use Rattle.reserved.specs.Held.{held}
 use Rattle.table.specs.Tables.{flows_in}
 use Rattle.calls.specs.Calls.{set_map}
+use Rattle.flow.proofs.Checks.{unless-passed}
 use Rattle.plan.specs.Journal.{Journal, maps, map_fault, called, noted}
 use Rattle.plan.specs.Plans.{After}
 use Rattle.plan.proofs.Following.{more, table_fits, follows-map}
-use Rattle.plan.proofs.Obeying.{
-  Moves,
-  sounds,
-  refused,
-  list-refused,
-  list-granted,
-  value_refused,
-  value_passed,
-  value_same,
-}
+use Rattle.plan.proofs.Obeying.{Moves, sounds, list-refused, list-granted, value_same}
 use Rattle.plan.proofs.edit.OpenPlan.map.Goals as goal
 use Rattle.plan.proofs.edit.OpenPlan.map.Goals.{In_ok-map, After-push}
-
-pub returns-in_err-map-clause-law : goal.returns-in_err-map-clause-law
-returns-in_err-map-clause-law c =
-    let m = c.args.channels in
-    refused c.args.self.now (set_map m) _ _ c.from_residual.ensures.1
-    (λ j f. value_refused (map_fault m) m _ _ c.in_err-map.ensures)
 
 -- the journal lists the change, if there is a place
 called_is : (c : In_ok-map) (j : Journal) → After j c.args.self.now →
     let m = c.args.channels in called (set_map m) j ≡ noted None (maps m) j
-called_is c j f = let m = c.args.channels in value_passed (map_fault m) m _ _ c.in_ok-map.ensures
+called_is c j f = let m = c.args.channels in unless-passed (map_fault m) m _ _ c.in_ok-map.ensures
 
 pub returns-in_err-check_room-clause-law : goal.returns-in_err-check_room-clause-law
 returns-in_err-check_room-clause-law c =

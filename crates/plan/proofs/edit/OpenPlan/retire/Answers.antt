@@ -4,16 +4,10 @@ use Rattle.table.specs.Tables.{flows_in}
 use Rattle.calls.specs.Calls.{retire}
 use Rattle.plan.specs.Journal.{Journal, removes, called, noted}
 use Rattle.plan.specs.Plans.{After}
-use Rattle.plan.proofs.Following.{more, table_fits, retire_refused, retire-passed, follows-retire}
-use Rattle.plan.proofs.Obeying.{Moves, sounds, refused, list-refused, list-granted}
+use Rattle.plan.proofs.Following.{more, table_fits, retire-passed, follows-retire}
+use Rattle.plan.proofs.Obeying.{Moves, sounds, list-refused, list-granted}
 use Rattle.plan.proofs.edit.OpenPlan.retire.Goals as goal
 use Rattle.plan.proofs.edit.OpenPlan.retire.Goals.{In_ok-check_retire, After-push}
-
-pub returns-in_err-check_retire-clause-law : goal.returns-in_err-check_retire-clause-law
-returns-in_err-check_retire-clause-law c =
-    let n = c.args.number in
-    refused c.args.self.now (retire n) _ _ c.from_residual.ensures.1
-    (λ j f. retire_refused f n _ c.in_err-check_retire.ensures)
 
 -- the journal lists the change, if there is a place
 called_is : (c : In_ok-check_retire) (j : Journal) → After j c.args.self.now →

@@ -3,9 +3,10 @@ use mathlib.Core.Logic.{∥∥₁_elim}
 use Rattle.std.proofs.Common.{◌≡◌, [], ◌∷◌, ◌++◌, Some, Err, sym, ap, ◌∙◌}
 use Rattle.reserved.specs.Held.{held}
 use native.Mathlib.Bridge.{le_prop}
+use Rattle.table.specs.Tables.{flows_in}
 use Rattle.table.specs.Vetting.{at_no_flow}
 use Rattle.calls.specs.Calls.{undo}
-use Rattle.plan.proofs.Obeying.{sounds, refused}
+use Rattle.plan.proofs.Obeying.{Moves, sounds, refused}
 use Rattle.plan.proofs.Reverting.{
   fewer,
   newest_ends,
@@ -23,7 +24,7 @@ use Rattle.plan.proofs.Reverting.{
 }
 use Rattle.plan.specs.declared.reversal.Reversal.{Reversal}
 use Rattle.plan.proofs.edit.OpenPlan.undo.Goals as goal
-use Rattle.plan.proofs.edit.OpenPlan.undo.Goals.{After-pop}
+use Rattle.plan.proofs.edit.OpenPlan.undo.Goals.{After-pop, After-remove, After-insert, In-Restore}
 
 pub returns-in_err-newest-clause-law : goal.returns-in_err-newest-clause-law
 returns-in_err-newest-clause-law c =
@@ -58,32 +59,43 @@ insert-requires c =
       light = ∥∥₁_elim sound le_prop (λ x. (insert-fits x.1 _ r.flow is).light);
     }
 
+-- without the admitted flow the plan follows the journal before
+removed : (c : After-remove) →
+    let p = c.args.self.now in Moves p fewer (flows_in c.remove.new.self) p.map (held c.pop.new.self)
+removed c j f =
+    follows-remove f _ c.in-Remove.added (was_last (goal.at.After-remove c).After-pop _ c.in-Remove.is) c.remove.ensures.after
+
+-- with the retired flow it does
+inserted : (c : After-insert) →
+    let p = c.args.self.now in Moves p fewer (flows_in c.insert.new.self) p.map (held c.pop.new.self)
+inserted c j f =
+    follows-insert f _ c.in-Insert.flow (was_last (goal.at.After-insert c).After-pop _ c.in-Insert.is) c.insert.ensures
+
+-- and with the map before
+restored : (c : In-Restore) →
+    let p = c.args.self.now in Moves p fewer (flows_in p.table) c.in-Restore.map (held c.pop.new.self)
+restored c j f = follows-restore f _ c.in-Restore.map (was_last (goal.at.In-Restore c).After-pop _ c.in-Restore.is)
+
 pub invariant_of-self-clause-sound : goal.invariant_of-self-clause-sound
-invariant_of-self-clause-sound c =
-    let is = was_last (goal.at.invariant_of-self-clause-sound c).After-pop _ c.in-Remove.is in
-    sounds c.args.self.now fewer (λ j f. follows-remove f _ c.in-Remove.added is c.remove.ensures.after)
+invariant_of-self-clause-sound c = sounds c.args.self.now fewer (removed c)
 
 pub returns-in-Remove-clause-law : goal.returns-in-Remove-clause-law
 returns-in-Remove-clause-law c =
-    let is = was_last (goal.at.returns-in-Remove-clause-law c).After-pop _ c.in-Remove.is in
-    undone c.args.self.now _ _ is (λ j f. follows-remove f _ c.in-Remove.added is c.remove.ensures.after)
+    let d = goal.at.returns-in-Remove-clause-law c in
+    undone c.args.self.now _ _ (was_last d.After-pop _ c.in-Remove.is) (removed d.After-remove)
 
 pub invariant_of-self-in-Insert-clause-sound : goal.invariant_of-self-in-Insert-clause-sound
-invariant_of-self-in-Insert-clause-sound c =
-    let is = was_last (goal.at.invariant_of-self-in-Insert-clause-sound c).After-pop _ c.in-Insert.is in
-    sounds c.args.self.now fewer (λ j f. follows-insert f _ c.in-Insert.flow is c.insert.ensures)
+invariant_of-self-in-Insert-clause-sound c = sounds c.args.self.now fewer (inserted c)
 
 pub returns-in-Insert-clause-law : goal.returns-in-Insert-clause-law
 returns-in-Insert-clause-law c =
-    let is = was_last (goal.at.returns-in-Insert-clause-law c).After-pop _ c.in-Insert.is in
-    undone c.args.self.now _ _ is (λ j f. follows-insert f _ c.in-Insert.flow is c.insert.ensures)
+    let d = goal.at.returns-in-Insert-clause-law c in
+    undone c.args.self.now _ _ (was_last d.After-pop _ c.in-Insert.is) (inserted d.After-insert)
 
 pub invariant_of-self-in-Restore-clause-sound : goal.invariant_of-self-in-Restore-clause-sound
-invariant_of-self-in-Restore-clause-sound c =
-    let is = was_last (goal.at.invariant_of-self-in-Restore-clause-sound c).After-pop _ c.in-Restore.is in
-    sounds c.args.self.now fewer (λ j f. follows-restore f _ c.in-Restore.map is)
+invariant_of-self-in-Restore-clause-sound c = sounds c.args.self.now fewer (restored c)
 
 pub returns-in-Restore-clause-law : goal.returns-in-Restore-clause-law
 returns-in-Restore-clause-law c =
-    let is = was_last (goal.at.returns-in-Restore-clause-law c).After-pop _ c.in-Restore.is in
-    undone c.args.self.now _ _ is (λ j f. follows-restore f _ c.in-Restore.map is)
+    let d = goal.at.returns-in-Restore-clause-law c in
+    undone c.args.self.now _ _ (was_last d.After-pop _ c.in-Restore.is) (restored d.In-Restore)
