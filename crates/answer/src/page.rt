@@ -6,7 +6,7 @@ use crate::refusal::Refusal;
 
 // Lent memory that is written from the front on. Text that no longer fits is only counted, so that an answer of any length
 // can be measured first.
-// Numbers are printed here and not by `write!`: that promises its bytes only where it gives `Ok`, and never promises `Ok`.
+// Numbers are printed here and not by `write!`: tried, but it promises its bytes only with an `Ok`, and never promises `Ok`.
 #[derive(Drop)]
 pub(crate) struct Page<'a> {
     pub(crate) memory: &'a mut [u8],

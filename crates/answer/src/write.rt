@@ -12,6 +12,7 @@ pub fn write_answer(line: u32, answer: Result<(), Refusal>, out: &mut [u8]) -> O
     ensures wrote { out.new ≡ fitted (answer_bytes line answer) out.old }
 {
     let size = print(line, answer, &mut []);
+    // no `then`: of what its closure wrote nothing would be known
     if size <= out.len() {
         Some(print(line, answer, out))
     } else {

@@ -5,7 +5,7 @@ use line::Call;
 use plan::OpenPlan;
 use table::{FlowRequest, PlanFault};
 
-// Has the plan carry out a call. No `From` makes the request: neither it nor the call is of this crate.
+// Has the plan carry out a call. No `From` makes what is asked of the plan out of it: neither type is of this crate.
 pub(crate) fn obey(plan: &mut OpenPlan, call: Call) -> Result<(), PlanFault>
     ensures kept { Spares result plan.old plan.new }
     ensures law { Obeys (call_of call) plan.old plan.new result }

@@ -7,7 +7,8 @@ use answer::Refusal;
 use flow::RouteFault;
 use table::{PlanFault, PlanRule};
 
-// What a fault in a route of that flow says. No `From`, here and below: neither type is of this crate.
+// What a fault in a route of that flow says. No `From`, here and below: neither type is of this crate. Numbers by a `match`: only
+// the console numbers the kinds, and 0 stands for what a refusal does not name.
 fn route_refusal(flow: u16, fault: RouteFault) -> Refusal
     ensures { result ≡ route_refusal_of flow fault }
 {

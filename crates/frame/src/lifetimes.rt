@@ -20,6 +20,7 @@ impl Leg {
             before,
             after,
             first: self.release.max(slot) + before as u16,
+            // due less after, as `Visit::end`, but of a leg and of 16 bits: no visit is at hand
             last: self.due as i16 - after as i16,
         }
     }

@@ -8,6 +8,7 @@ ghost use Rattle.frame.specs.States.{done_of, fits, is_state_at, released, overd
 use crate::leg::Leg;
 use crate::moment::Moment;
 
+// A slot and one number that is done, not a moment: a leg sees only its own number.
 impl Leg {
     // Whether all hops are done.
     fn is_complete(&self, done: u8) -> bool
@@ -35,7 +36,7 @@ impl Leg {
     }
 }
 
-// The number of hops of a leg that are done.
+// The number of hops of a leg that are done, for those who have no frame at hand.
 pub fn done(progress: &[u8], leg: usize) -> u8
     ensures { result ≡ done_of progress.now leg }
 {

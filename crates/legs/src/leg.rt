@@ -8,7 +8,7 @@ use crate::hops::hops_along;
 use flow::{Flow, Route};
 use frame::Leg;
 
-// A packet of a flow, from 0 on, on the route of that number. Its period ends by slot 1,024.
+// A packet of a flow, from 0 on, on the route of that number. Its period ends by slot 1,024. No `From`: it has four inputs.
 pub(crate) fn leg_of(flow: &Flow, packet: u16, number: u8, route: &Route) -> Leg
     requires { flow.now.period * (packet + 1) ≤ 1024 }
     ensures { leg_spec result ≡ leg_of_packet (flow_spec flow.now) packet number (devices_in route.now) }

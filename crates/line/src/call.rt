@@ -3,6 +3,7 @@ use byte_list::ByteList;
 // What a line asks for.
 #[derive(Clone, Copy)]
 pub enum Call {
+    // the fields of the table's request, with the bytes of their own: the line is let go first
     Admit {
         flow: u16,
         period: u16,

@@ -23,7 +23,7 @@ pub fn read_line(line: &[u8]) -> Option<Call>
     read_call(letter, fields)
 }
 
-// The call of a letter with the fields that are left.
+// The call of a letter with the fields that are left. At most 160 bytes, here and below: other texts are read in pieces too.
 fn read_call(letter: &[u8], fields: Pieces) -> Option<Call>
     requires { size (left fields) ≤ 160 }
     ensures { option_map call_of result ≡ call_with letter.now (left fields.entry) }

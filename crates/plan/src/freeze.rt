@@ -5,6 +5,7 @@ ghost use Rattle.plan.specs.Plans.{After};
 use crate::plan::{FrozenPlan, OpenPlan, Plan};
 use legs::frame_of;
 
+// The fields one by one, here and in thaw: they go into a plan of another type.
 impl OpenPlan {
     // The same plan, frozen, with its frame: after the same journal. It allocates nothing.
     pub fn freeze(self) -> FrozenPlan

@@ -19,6 +19,7 @@ impl ConflictAware {
         ensures value { result ≡ at_moment conflict_aware moment.entry leg }
         ensures bounds { at_moment LaxityBounds moment.entry result }
     {
+        // no `map_or`: tried, and of a closure that holds a moment and hands it on nothing was known
         let Some(hop) = released_hop(moment, leg) else {
             return 0;
         };

@@ -21,6 +21,7 @@ impl NextHop {
         let after = leg.count - place - 1;
         NextHop {
             sender: leg.hops()[place as usize].sender,
+            // due less after, as `Visit::end`, but of a leg and of 16 bits: no visit is at hand
             end: leg.due as i16 - after as i16,
         }
     }
@@ -45,6 +46,7 @@ pub(crate) fn released_hop(moment: Moment<'_>, leg: usize) -> Option<NextHop>
     ensures { result ≡ at_moment released_hop_of moment.entry leg }
 {
     let found = moment.frame.legs().get(leg)?;
+    // no `then`: tried, and of a closure that holds a moment and hands it on nothing was known
     if !is_ready(moment, leg) {
         return None;
     }

@@ -4,7 +4,8 @@ ghost use Rattle.frame.specs.Frames.{FrameSpec, frame_spec};
 
 use frame::Moment;
 
-// A ranking gives each leg whose next hop is released in a state a key; the lowest goes first, ties by leg order.
+// A ranking gives each leg whose next hop is released in a state a key; the lowest goes first, ties by leg order. Asked of
+// anything else, the rankings here give 0: a rule of the project.
 pub trait Ranking {
     // the key of a leg at a slot and progress of a frame
     ghost key: { Self → FrameSpec → ℕ → List ℕ → ℕ → ℤ };

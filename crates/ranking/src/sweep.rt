@@ -84,7 +84,7 @@ pub(crate) fn least_slack(moment: Moment<'_>, hop: NextHop) -> i32
         live: None,
         best: hop.laxity(moment.slot),
     };
-    // no `fold`: in its closure the bound on the count, which `meet` requires, is not known
+    // no `fold`: tried, and in its closure the bound on the count, which `meet` requires, is not known
     for visit in moment.frame.visits(hop.sender) {
         sweep = sweep.meet(moment, hop, visit);
     }

@@ -7,7 +7,7 @@ use std::alloc::Global;
 use std::io;
 use std::io::{ErrorKind, Read, Write};
 
-// Longer than any answer.
+// Longer than any answer. This and the next are memory that is lent to a call.
 const ANSWER: usize = 64;
 
 const CHUNK: usize = 4096;
@@ -47,6 +47,7 @@ fn answer_input<R: Read, W: Write>(
     let mut chunk = [0; CHUNK];
     // a count, and no loop without end: each loop is proved to end, and so many reads never come
     for _ in 0..u64::MAX {
+        // arms and no `?`: the console goes back beside an error, and an interrupted read is asked again
         let length = match input.read(&mut chunk) {
             Ok(0) => return (console, Ok(())),
             Ok(length) => length,

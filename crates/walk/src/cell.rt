@@ -22,7 +22,7 @@ pub(crate) fn placement(frame: &Frame, slot: u16, offset: u8, leg: usize, done: 
     }
 }
 
-// Whether two placements share a device.
+// Whether two placements share a device. A placement is one cell as it is handed out, with no hop in it to ask.
 fn share_device(one: &Placement, other: &Placement) -> bool
     ensures { result ≡ meets one.now other.now }
 {

@@ -14,7 +14,7 @@ impl Short {
     }
 }
 
-// Refuses the first memory that is too short for the frame, of the four lengths.
+// Refuses the first memory that is too short for the frame, of the four lengths: as many as quick has memories.
 pub(crate) fn check_memory(
     frame: &Frame,
     trail: usize,

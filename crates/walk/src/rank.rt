@@ -17,6 +17,7 @@ pub(crate) fn rank_legs<R: Ranking>(ranking: &R, moment: Moment<'_>, ranked: &mu
     ensures whole { room_of ranked.new ≡ room_of ranked.old }
 {
     ranked.clear();
+    // over numbers: a leg is ranked by its number
     for leg in 0..moment.frame.legs().len() {
         if moment.is_released(leg) {
             let key = ranking.rank(moment, leg);
