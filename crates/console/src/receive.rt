@@ -30,12 +30,19 @@ impl Console {
     pub fn receive(mut self, byte: u8) -> (Console, Option<Result<Granted, ConsoleFault>>)
         ensures { (k : Book) → Keeps k self → Keeps (received byte k) result.0 × (result.1 ≡ reply byte k) }
     {
+        let reply = self.take(byte);
+        (self, reply)
+    }
+
+    // Takes one more byte as `receive` does, and leaves the console where it is: to move it costs more than to take a byte.
+    pub fn take(&mut self, byte: u8) -> Option<Result<Granted, ConsoleFault>>
+        ensures { (k : Book) → Keeps k self.old → Keeps (received byte k) self.new × (result ≡ reply byte k) }
+    {
         if byte != NEWLINE {
             self.received.push(byte);
-            return (self, None);
+            return None;
         }
-        let reply = self.answer_line();
-        (self, Some(reply))
+        Some(self.answer_line())
     }
 
     // The end of the input. A last line without a newline is answered too, unless it is empty.
