@@ -20,42 +20,56 @@ fn write<W: Write>(output: &mut W, reply: Result<Granted, ConsoleFault>) -> io::
     output.flush()
 }
 
-// Hands the bytes to the console, and writes each answer before the next byte is looked at.
-fn answer_all<W: Write>(console: &mut Console, bytes: &[u8], output: &mut W) -> io::Result<()> {
+// Hands the bytes to the console, and writes each answer before the next byte is looked at. Here and below the console goes by
+// value and comes back beside the result, also beside an error: only its end lets the plan go.
+fn answer_all<W: Write>(
+    mut console: Console,
+    bytes: &[u8],
+    output: &mut W,
+) -> (Console, io::Result<()>) {
     for byte in bytes {
-        if let Some(reply) = console.take(*byte) {
-            write(output, reply)?;
+        if console.hold(*byte) {
+            continue;
+        }
+        let (next, reply) = console.receive(*byte);
+        console = next;
+        let result = reply.map_or(Ok(()), |reply| write(output, reply));
+        if result.is_err() {
+            return (console, result);
         }
     }
-    Ok(())
+    (console, Ok(()))
 }
 
 // Answers all lines up to the end of the input.
 fn answer_input<R: Read, W: Write>(
-    console: &mut Console,
+    mut console: Console,
     input: &mut R,
     output: &mut W,
-) -> io::Result<()> {
+) -> (Console, io::Result<()>) {
     let mut chunk = [0; CHUNK];
     // a count, and no loop without end: each loop is proved to end, and so many reads never come
     for _ in 0..u64::MAX {
-        // arms and no `?`: an interrupted read is asked again
+        // arms and no `?`: the console goes back beside an error, and an interrupted read is asked again
         let length = match input.read(&mut chunk) {
-            Ok(0) => return Ok(()),
+            Ok(0) => return (console, Ok(())),
             Ok(length) => length,
             Err(error) if error.kind() == ErrorKind::Interrupted => continue,
-            Err(error) => return Err(error),
+            Err(error) => return (console, Err(error)),
         };
-        answer_all(console, &chunk[..length], output)?;
+        let (next, result) = answer_all(console, &chunk[..length], output);
+        console = next;
+        if result.is_err() {
+            return (console, result);
+        }
     }
-    Ok(())
+    (console, Ok(()))
 }
 
 // A session on a new plan: answers each line of the input, the last one also without a newline.
 pub fn serve<R: Read, W: Write>(heap: Global, input: &mut R, output: &mut W) -> io::Result<()> {
-    let mut console = Console::new(heap)?;
-    let result = answer_input(&mut console, input, output);
-    // also after an error: only its end lets the plan go
+    let console = Console::new(heap)?;
+    let (console, result) = answer_input(console, input, output);
     let (plan, reply) = console.finish();
     drop(plan.into_table());
     result?;
