@@ -4,6 +4,10 @@ ghost use Rattle.answer.specs.Page.{Grows};
 
 use crate::refusal::Refusal;
 
+// As many bytes as an answer has at most: a line number of 10 digits, ` refused`, four numbers of 10 digits behind spaces, and
+// the end of the line.
+pub(crate) const LONGEST: usize = 63;
+
 // Lent memory that is written from the front on. Text that no longer fits is only counted, so that an answer of any length
 // can be measured first.
 // Numbers are printed here and not by `write!`: tried, but it promises its bytes only with an `Ok`, and never promises `Ok`.
@@ -72,7 +76,8 @@ impl<'a> Page<'a> {
     // The answer to the line of that number, next.
     pub(crate) fn answer(&mut self, line: u32, answer: Result<(), Refusal>)
         requires { self.old.end ≡ 0 }
-        ensures { Grows self.old self.new (answer_bytes line answer) }
+        ensures grows { Grows self.old self.new (answer_bytes line answer) }
+        ensures few { self.new.end ≤ LONGEST }
     {
         self.number(line);
         match answer {

@@ -53,7 +53,7 @@ impl<const N: usize> ByteList<N> {
     pub fn is_full(&self) -> bool
         ensures { result ≡ (length (bytes_in self.now) == N) }
     {
-        self.len == N
+        self.len >= N
     }
 
     // One byte more, for which there is room.

@@ -60,6 +60,10 @@ abbrev pub received : ℕ → Book → Book
 received b k =
     if b == 10 then line_entered k else record { journal = k.journal; lines = k.lines; line = k.line ++ b ∷ [] }
 
+-- one byte more, unless it ends the line
+abbrev pub held_within : ℕ → Book → Book
+held_within b k = if b == 10 then k else received b k
+
 -- the reply that it brings
 abbrev pub reply : ℕ → Book → Option (Result Granted ConsoleFault)
 reply b k = if b == 10 then Some (line_reply k) else None

@@ -1,6 +1,6 @@
-ghost use Rattle.std.specs.Prelude.{◌≡◌, IfOk};
+ghost use Rattle.std.specs.Prelude.{◌≡◌, ◌==◌, not, IfOk};
 ghost use Rattle.plan.specs.Plans.{After};
-ghost use Rattle.console.specs.Book.{Book, opened, received, reply, last_reply, last_journal, line_reply, line_entered};
+ghost use Rattle.console.specs.Book.{Book, opened, received, held_within, reply, last_reply, last_journal, line_reply, line_entered};
 ghost use Rattle.console.specs.Consoles.{Keeps};
 
 use crate::fault::{ConsoleFault, ConsoleRule, Granted};
@@ -30,12 +30,24 @@ impl Console {
     pub fn receive(mut self, byte: u8) -> (Console, Option<Result<Granted, ConsoleFault>>)
         ensures { (k : Book) → Keeps k self → Keeps (received byte k) result.0 × (result.1 ≡ reply byte k) }
     {
-        if byte != NEWLINE {
-            self.received.push(byte);
+        if self.hold(byte) {
             return (self, None);
         }
         let reply = self.answer_line();
         (self, Some(reply))
+    }
+
+    // Takes one more byte within a line, and says whether it did: it leaves a newline to `receive`. The console stays where it
+    // is, since to move it costs more than to take a byte.
+    pub fn hold(&mut self, byte: u8) -> bool
+        ensures taken { result ≡ not (byte == 10) }
+        ensures held { (k : Book) → Keeps k self.old → Keeps (held_within byte k) self.new }
+    {
+        if byte == NEWLINE {
+            return false;
+        }
+        self.received.push(byte);
+        true
     }
 
     // The end of the input. A last line without a newline is answered too, unless it is empty.

@@ -1,5 +1,5 @@
 -- The rules of one route: a list of devices, the gateway being device 0.
-use Rattle.std.specs.Prelude.{ℕ, ◌-◌, Bool, true, not, ◌&&◌, List, [], ◌∷◌, length, take, position, is_some, Option, ◌==◌, nat_lt, slice_index}
+use Rattle.std.specs.Prelude.{ℕ, ◌-◌, Bool, true, not, ◌&&◌, List, [], ◌∷◌, length, position, is_some, Option, ◌==◌, nat_lt, slice_index}
 use Rattle.std.specs.List.{list_any}
 use Rattle.flow.specs.First.{first}
 
@@ -9,7 +9,7 @@ first_unknown_of ds = position (λ d. nat_lt 100 d) ds
 
 -- the device at index i stands earlier in the route
 abbrev pub repeats : List ℕ → ℕ → Bool
-repeats ds i = list_any (λ d. d == slice_index ds i) (take i ds)
+repeats ds i = is_some (first (λ j. slice_index ds j == slice_index ds i) i)
 
 -- the first such index
 abbrev pub first_repeat_of : List ℕ → Option ℕ

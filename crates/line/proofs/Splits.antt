@@ -1,6 +1,6 @@
 -- Where the first separator stands, the first piece ends.
 use Rattle.std.proofs.Common.{◌≡◌, ℕ, ◌+◌, ◌-◌, ◌<◌, ◌≤◌, Bool, false, not, eqb, List, [], ◌∷◌, length, take, drop, Option, Some, None, refl, sym, ap, ◌∙◌, ⊎_elim, arith}
-use Rattle.std.specs.List.{position, position_or_len, onto_first}
+use Rattle.std.specs.List.{position, position_or_len, onto_first, count_by}
 use Rattle.std.specs.Option.{is_some, option_map_or}
 use Rattle.std.specs.Borrow.{Bor}
 use Rattle.std.proofs.lemmas.List.{take_rest}
@@ -119,3 +119,11 @@ length-size (p ∷ ps) = omega (arith, length-size ps, size-cons p ps)
 -- a text has at most one piece more than bytes
 pub most_pieces : (s : ℕ) (xs : List ℕ) → length (split_at s xs) ≤ length xs + 1
 most_pieces s xs = omega (arith, length-size (split_at s xs), size-split_at s xs)
+
+-- each separator makes one piece more
+pub pieces_by_separators : (s : ℕ) (xs : List ℕ) → length (split_at s xs) ≡ 1 + count_by (λ x. eqb x s) xs
+pieces_by_separators s xs = omega (arith, length-slice_split (λ x. eqb x s) xs)
+
+-- a text has at most as many separators as bytes
+pub few_separators : (s : ℕ) (xs : List ℕ) → count_by (λ x. eqb x s) xs ≤ length xs
+few_separators s xs = omega (arith, most_pieces s xs, pieces_by_separators s xs)

@@ -62,11 +62,15 @@ fn first_at(text: &[u8], separator: u8) -> Option<usize>
     text.iter().position(|byte| *byte == separator)
 }
 
-// How many pieces a text has.
-#[tactic(auto, using(crate::proofs::Splits::most_pieces))]
+// How many pieces a text has: one more than separators.
+#[tactic(auto, using(crate::proofs::Splits::pieces_by_separators))]
 pub(crate) fn count(text: &[u8], separator: u8) -> usize
     ensures pieces { result ≡ length (split_at separator text.now) }
     ensures within { result ≤ length text.now + 1 }
 {
-    Pieces::new(text, separator).count()
+    let separators: usize = text
+        .iter()
+        .map(|byte| usize::from(*byte == separator))
+        .sum();
+    separators + 1
 }

@@ -33,10 +33,14 @@ fn read_call(letter: &[u8], fields: Pieces) -> Option<Call>
     };
     match char::from(*letter) {
         'A' => read_admission(fields),
-        'R' => only_number(fields).map(|flow| Call::Retire { flow }),
-        'C' => only_number(fields).map(|channels| Call::Map { channels }),
-        'U' => fields.is_empty().then_some(Call::Undo),
-        'K' => fields.is_empty().then_some(Call::Settle),
+        'R' => Some(Call::Retire {
+            flow: only_number(fields)?,
+        }),
+        'C' => Some(Call::Map {
+            channels: only_number(fields)?,
+        }),
+        'U' if fields.is_empty() => Some(Call::Undo),
+        'K' if fields.is_empty() => Some(Call::Settle),
         _ => None,
     }
 }
@@ -49,11 +53,11 @@ fn read_admission(mut fields: Pieces) -> Option<Call>
     let flow = next_number(&mut fields)?;
     let period = next_number(&mut fields)?;
     let deadline = next_number(&mut fields)?;
-    read_routes(fields).map(|routes| Call::Admit {
+    Some(Call::Admit {
         flow,
         period,
         deadline,
-        routes,
+        routes: read_routes(fields)?,
     })
 }
 

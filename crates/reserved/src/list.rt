@@ -11,7 +11,7 @@ pub struct Reserved<T, const N: usize> {
 }
 
 impl<T: Copy, const N: usize> Reserved<T, N> {
-    ghost use Rattle.reserved.specs.Held.{held};
+    ghost use Rattle.reserved.specs.Held.{held, memory_of};
 
     // No entries yet, with memory for N.
     pub fn new(heap: Global) -> Result<Reserved<T, N>, AllocError>
@@ -19,6 +19,25 @@ impl<T: Copy, const N: usize> Reserved<T, N> {
     {
         let entries = Vec::with_capacity(heap, N)?;
         Ok(Reserved { entries })
+    }
+
+    // The first N entries of a list, in its memory, which is for N at least.
+    pub fn from_vec(mut entries: Vec<T>) -> Reserved<T, N>
+        requires { N ≤ vec_capacity entries }
+        ensures value { held result ≡ take N entries.items }
+        ensures memory { memory_of result ≡ vec_capacity entries }
+    {
+        entries.truncate(N);
+        Reserved { entries }
+    }
+
+    // The entries, with their memory.
+    pub fn into_vec(self) -> Vec<T>
+        ensures value { result.items ≡ held self }
+        ensures memory { vec_capacity result ≡ memory_of self }
+    {
+        let Reserved { entries } = self;
+        entries
     }
 
     // The number of entries.
@@ -61,7 +80,8 @@ impl<T: Copy, const N: usize> Reserved<T, N> {
     // One entry more at the end, for which there is room.
     pub fn push(&mut self, entry: T)
         requires { length (held self.old) < N }
-        ensures { held self.new ≡ held self.old ++ entry ∷ [] }
+        ensures value { held self.new ≡ held self.old ++ entry ∷ [] }
+        ensures memory { memory_of self.new ≡ memory_of self.old }
     {
         self.entries.push_reserved(entry);
     }
@@ -70,7 +90,8 @@ impl<T: Copy, const N: usize> Reserved<T, N> {
     pub fn insert(&mut self, index: usize, entry: T)
         requires within { index ≤ length (held self.old) }
         requires room { length (held self.old) < N }
-        ensures { held self.new ≡ insert (held self.old) index entry }
+        ensures value { held self.new ≡ insert (held self.old) index entry }
+        ensures memory { memory_of self.new ≡ memory_of self.old }
     {
         // There is room, so it does not fail.
         let _ = self.entries.insert(index, entry);
@@ -81,6 +102,7 @@ impl<T: Copy, const N: usize> Reserved<T, N> {
         requires { index < length (held self.old) }
         ensures value { slice_get (held self.old) index ≡ Some result }
         ensures left { held self.new ≡ remove (held self.old) index }
+        ensures memory { memory_of self.new ≡ memory_of self.old }
     {
         self.entries.remove(index)
     }
@@ -89,13 +111,15 @@ impl<T: Copy, const N: usize> Reserved<T, N> {
     pub fn pop(&mut self) -> Option<T>
         ensures value { result ≡ slice_get (held self.old) (length (held self.old) - 1) }
         ensures left { held self.new ≡ take (length (held self.old) - 1) (held self.old) }
+        ensures memory { memory_of self.new ≡ memory_of self.old }
     {
         self.entries.pop()
     }
 
     // Lets all entries go.
     pub fn clear(&mut self)
-        ensures { held self.new ≡ [] }
+        ensures value { held self.new ≡ [] }
+        ensures memory { memory_of self.new ≡ memory_of self.old }
     {
         self.entries.clear();
     }

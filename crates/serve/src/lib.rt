@@ -28,6 +28,9 @@ fn answer_all<W: Write>(
     output: &mut W,
 ) -> (Console, io::Result<()>) {
     for byte in bytes {
+        if console.hold(*byte) {
+            continue;
+        }
         let (next, reply) = console.receive(*byte);
         console = next;
         let result = reply.map_or(Ok(()), |reply| write(output, reply));

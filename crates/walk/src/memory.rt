@@ -10,7 +10,7 @@ impl Short {
     pub fn position(self) -> u8
         ensures { result ≡ position_of self }
     {
-        self as u8
+        self as u8 + 1
     }
 }
 

@@ -1,5 +1,4 @@
-use Rattle.std.proofs.Common.{◌≡◌, ℕ, ◌<◌, false, eqb, get_or, take, None}
-use Rattle.std.specs.List.{list_any}
+use Rattle.std.proofs.Common.{◌≡◌, ℕ, ◌<◌, false, eqb, get_or, None}
 use Rattle.flow.specs.Rules.{repeats}
 use Rattle.flow.proofs.scan.first_repeat.Given as goal
 
@@ -8,4 +7,4 @@ invariant-search l = (l.found ≡ None) × ((k : ℕ) → k < l.later → repeat
 
 abbrev pub invariant-loop-earlier : goal.invariant-loop-earlier
 invariant-loop-earlier l =
-    (l.found ≡ None) × (list_any (λ d. eqb d (get_or l.devices l.later 0)) (take l.earlier l.devices) ≡ false)
+    (l.found ≡ None) × ((k : ℕ) → k < l.earlier → eqb (get_or l.devices k 0) (get_or l.devices l.later 0) ≡ false)

@@ -56,7 +56,7 @@ moved : (c : After-push) →
     Moves p (more (change (goal.at.After-push c).In_ok-flow)) (flows_in c.insert.new.self) p.map changes
 moved c j f =
     follows-admit f (table_fits c.args.self.now.table) c.args.request.number (flow_spec c.in_ok-flow.flow)
-    (lets_in (goal.at.After-push c).In_ok-flow) c.insert.ensures c.push.ensures
+    (lets_in (goal.at.After-push c).In_ok-flow) c.insert.ensures c.push.ensures.value
 
 pub invariant_of-self-clause-sound : goal.invariant_of-self-clause-sound
 invariant_of-self-clause-sound c = sounds c.args.self.now (more (adds (flow_spec c.in_ok-flow.flow))) (moved c)

@@ -30,7 +30,7 @@ moved : (c : After-push) →
 moved c j f =
     let m = c.args.channels in
     follows-map f (table_fits c.args.self.now.table) m
-    (value_same (map_fault m) m _ c.in_ok-map.ensures) c.push.ensures
+    (value_same (map_fault m) m _ c.in_ok-map.ensures) c.push.ensures.value
 
 pub invariant_of-self-clause-sound : goal.invariant_of-self-clause-sound
 invariant_of-self-clause-sound c =

@@ -30,7 +30,7 @@ moved c j f =
     let t = c.args.self.now.table in
     let r = c.remove-flow in
     follows-retire f (table_fits t) c.args.number r.result
-    t.rises r.ensures.named r.ensures.back r.ensures.after c.push.ensures
+    t.rises r.ensures.named r.ensures.back r.ensures.after c.push.ensures.value
 
 pub invariant_of-self-clause-sound : goal.invariant_of-self-clause-sound
 invariant_of-self-clause-sound c = sounds c.args.self.now (more (removes c.args.number)) (moved c)

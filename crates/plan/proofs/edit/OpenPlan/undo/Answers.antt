@@ -77,7 +77,9 @@ restored : (c : In-Restore) →
 restored c j f = follows-restore f _ c.in-Restore.map (was_last (goal.at.In-Restore c).After-pop _ c.in-Restore.is)
 
 pub invariant_of-self-clause-sound : goal.invariant_of-self-clause-sound
-invariant_of-self-clause-sound c = sounds c.args.self.now fewer (removed c)
+invariant_of-self-clause-sound c =
+    let d = goal.at.invariant_of-self-clause-sound c in
+    sounds c.args.self.now fewer (removed d.After-remove)
 
 pub returns-in-Remove-clause-law : goal.returns-in-Remove-clause-law
 returns-in-Remove-clause-law c =
@@ -85,7 +87,9 @@ returns-in-Remove-clause-law c =
     undone c.args.self.now _ _ (was_last d.After-pop _ c.in-Remove.is) (removed d.After-remove)
 
 pub invariant_of-self-in-Insert-clause-sound : goal.invariant_of-self-in-Insert-clause-sound
-invariant_of-self-in-Insert-clause-sound c = sounds c.args.self.now fewer (inserted c)
+invariant_of-self-in-Insert-clause-sound c =
+    let d = goal.at.invariant_of-self-in-Insert-clause-sound c in
+    sounds c.args.self.now fewer (inserted d.After-insert)
 
 pub returns-in-Insert-clause-law : goal.returns-in-Insert-clause-law
 returns-in-Insert-clause-law c =
@@ -93,7 +97,9 @@ returns-in-Insert-clause-law c =
     undone c.args.self.now _ _ (was_last d.After-pop _ c.in-Insert.is) (inserted d.After-insert)
 
 pub invariant_of-self-in-Restore-clause-sound : goal.invariant_of-self-in-Restore-clause-sound
-invariant_of-self-in-Restore-clause-sound c = sounds c.args.self.now fewer (restored c)
+invariant_of-self-in-Restore-clause-sound c =
+    let d = goal.at.invariant_of-self-in-Restore-clause-sound c in
+    sounds c.args.self.now fewer (restored d.In-Restore)
 
 pub returns-in-Restore-clause-law : goal.returns-in-Restore-clause-law
 returns-in-Restore-clause-law c =

@@ -21,7 +21,7 @@ module _ (c : After-insert) where
   after =
       let fs = flows_in c.args.self.now in
       let f = flow_spec c.args.flow in
-      ap (map flow_spec) c.insert.ensures
+      ap (map flow_spec) c.insert.ensures.value
       ∙ map_inserted (held c.args.self.now.flows) c.unwrap_err-i.result c.args.flow
       ∙ sym (placed_at f fs c.unwrap_err-i.result place)
 
