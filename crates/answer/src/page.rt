@@ -4,9 +4,9 @@ ghost use Rattle.answer.specs.Page.{Grows};
 
 use crate::refusal::Refusal;
 
-// As many bytes as an answer has at most: a line number of 10 digits, ` refused`, four numbers of 10 digits behind spaces, and
-// the end of the line.
-pub(crate) const LONGEST: usize = 63;
+// As many bytes as an answer has at most: a line number of 10 digits, ` refused`, a space and 3, 5, 3 and 3 digits, and the end
+// of the line.
+pub(crate) const LONGEST: usize = 37;
 
 // Lent memory that is written from the front on. Text that no longer fits is only counted, so that an answer of any length
 // can be measured first.
@@ -65,7 +65,7 @@ impl<'a> Page<'a> {
     fn refusal(&mut self, refusal: Refusal)
         requires { self.old.end < 2 ^ 30 }
         ensures grows { Grows self.old self.new (refusal_bytes refusal) }
-        ensures few { self.new.end ≤ self.old.end + 44 }
+        ensures few { self.new.end ≤ self.old.end + 18 }
     {
         self.named(u32::from(refusal.number));
         self.named(u32::from(refusal.flow));

@@ -2,7 +2,7 @@ ghost use Rattle.std.specs.Prelude.{◌≤◌, length, vec_capacity, ◌≡◌, 
 
 use std::alloc::{AllocError, Global};
 
-// At most N entries. Memory for all of them is reserved when the list is made, so no later call allocates.
+// At most N entries. Memory for all of them is there when the list is made, so no later call allocates.
 #[derive(Drop)]
 pub struct Reserved<T, const N: usize> {
     pub(crate) entries: Vec<T>,
@@ -29,15 +29,6 @@ impl<T: Copy, const N: usize> Reserved<T, N> {
     {
         entries.truncate(N);
         Reserved { entries }
-    }
-
-    // The entries, with their memory.
-    pub fn into_vec(self) -> Vec<T>
-        ensures value { result.items ≡ held self }
-        ensures memory { vec_capacity result ≡ memory_of self }
-    {
-        let Reserved { entries } = self;
-        entries
     }
 
     // The number of entries.

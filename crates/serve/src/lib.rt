@@ -21,7 +21,8 @@ fn write<W: Write>(output: &mut W, reply: Result<Granted, ConsoleFault>) -> io::
 }
 
 // Hands the bytes to the console, and writes each answer before the next byte is looked at. Here and below the console goes by
-// value and comes back beside the result, also beside an error: only its end lets the plan go.
+// value and comes back beside the result, also beside an error: only its end lets the plan go. A byte within a line is held where
+// the console stands.
 fn answer_all<W: Write>(
     mut console: Console,
     bytes: &[u8],
